@@ -1,0 +1,99 @@
+ghost use Rattle.std.specs.Prelude.{◌≡◌, IfOk};
+ghost use Rattle.cyp_term.specs.Terms.{negated};
+
+use crate::copied::{Copied, Exact};
+use crate::fail::NoMemory;
+use crate::list::List;
+use crate::term::{Term, Var};
+use std::alloc::Global;
+use std::marker::Model;
+
+/// A union of set variables and single elements.
+#[derive(Debug, Drop, PartialEq, Eq, Hash)]
+pub struct SetTerm {
+    vars: List<Var>,
+    elems: List<Term>,
+}
+
+impl Model for SetTerm {
+    ghost use Rattle.cyp_term.specs.SetTermValue.{SetTermValue, AllSets};
+
+    ghost Value = { SetTermValue };
+
+    ghost view = { λ t. record { vars = t.vars; elems = t.elems } };
+
+    ghost invariant = { λ t. AllSets t.vars };
+
+    ghost inverse = { λ t. record { vars = t.vars; elems = t.elems } };
+}
+
+#[derive(Debug, Drop, PartialEq, Eq, Hash)]
+pub enum Lit {
+    Eq(Term, Term),
+    Ne(Term, Term),
+    Le(Term, Term),
+    Lt(Term, Term),
+    Same(SetTerm, SetTerm),
+    NotSame(SetTerm, SetTerm),
+    Member(Term, SetTerm),
+    NotMember(Term, SetTerm),
+    Sub(SetTerm, SetTerm),
+    NotSub(SetTerm, SetTerm),
+}
+
+impl Lit {
+    pub fn negated(self) -> Lit
+        ensures { result ≡ negated self }
+    {
+        match self {
+            Lit::Eq(a, b) => Lit::Ne(a, b),
+            Lit::Ne(a, b) => Lit::Eq(a, b),
+            Lit::Le(a, b) => Lit::Lt(b, a),
+            Lit::Lt(a, b) => Lit::Le(b, a),
+            Lit::Same(a, b) => Lit::NotSame(a, b),
+            Lit::NotSame(a, b) => Lit::Same(a, b),
+            Lit::Member(a, b) => Lit::NotMember(a, b),
+            Lit::NotMember(a, b) => Lit::Member(a, b),
+            Lit::Sub(a, b) => Lit::NotSub(a, b),
+            Lit::NotSub(a, b) => Lit::Sub(a, b),
+        }
+    }
+}
+
+impl Copied for SetTerm {
+    fn copy(&self, alloc: Global) -> Result<SetTerm, NoMemory> {
+        Ok(SetTerm {
+            vars: self.vars.copy(alloc)?,
+            elems: self.elems.copy(alloc)?,
+        })
+    }
+}
+
+impl Copied for Lit {
+    fn copy(&self, alloc: Global) -> Result<Lit, NoMemory> {
+        Ok(match self {
+            Lit::Eq(a, b) => Lit::Eq(*a, *b),
+            Lit::Ne(a, b) => Lit::Ne(*a, *b),
+            Lit::Le(a, b) => Lit::Le(*a, *b),
+            Lit::Lt(a, b) => Lit::Lt(*a, *b),
+            Lit::Same(a, b) => Lit::Same(a.copy(alloc)?, b.copy(alloc)?),
+            Lit::NotSame(a, b) => Lit::NotSame(a.copy(alloc)?, b.copy(alloc)?),
+            Lit::Member(a, b) => Lit::Member(*a, b.copy(alloc)?),
+            Lit::NotMember(a, b) => Lit::NotMember(*a, b.copy(alloc)?),
+            Lit::Sub(a, b) => Lit::Sub(a.copy(alloc)?, b.copy(alloc)?),
+            Lit::NotSub(a, b) => Lit::NotSub(a.copy(alloc)?, b.copy(alloc)?),
+        })
+    }
+}
+
+impl Exact for SetTerm {
+    ghost use Rattle.cyp_term.specs.ExactLits.{exact_set_term};
+
+    ghost exact = { exact_set_term };
+}
+
+impl Exact for Lit {
+    ghost use Rattle.cyp_term.specs.ExactLits.{exact_lit};
+
+    ghost exact = { exact_lit };
+}

@@ -1,0 +1,100 @@
+ghost use Rattle.std.specs.Prelude.{◌≡◌};
+ghost use Rattle.cyp_term.specs.TermValue.{IsTerm};
+
+use crate::copied::{Copied, Exact};
+use crate::fail::NoMemory;
+use std::alloc::Global;
+use std::marker::Model;
+use thiserror::Error;
+
+/// What a variable stands for: an integer, the cardinality of an instance, which is an integer
+/// too, or a finite set of integers.
+#[derive(Clone, Copy, Debug, PartialEq, Eq, Hash)]
+pub enum Sort {
+    Int,
+    Card,
+    Set,
+}
+
+/// A variable. Each sort is numbered apart from the others.
+#[derive(Clone, Copy, Debug, PartialEq, Eq, Hash)]
+pub struct Var {
+    pub sort: Sort,
+    pub number: u8,
+}
+
+/// An offset of a term passes 2^32 in size.
+#[derive(Clone, Copy, Debug, PartialEq, Eq, Hash, Error)]
+#[error("an offset passes 2^32 in size")]
+pub struct TooWide;
+
+/// An integer term: a variable of sort `Int` or `Card`, or nothing, plus an offset of at most
+/// 2^32 in size.
+#[derive(Clone, Copy, Debug, PartialEq, Eq, Hash)]
+pub struct Term {
+    base: Option<Var>,
+    offset: i64,
+}
+
+impl Model for Term {
+    ghost use Rattle.cyp_term.specs.TermValue.{TermValue, IsTerm};
+
+    ghost Value = { TermValue };
+
+    ghost view = { λ t. record { base = t.base; offset = t.offset } };
+
+    ghost invariant = { λ t. IsTerm t.base t.offset };
+
+    ghost inverse = { λ t. record { base = t.base; offset = t.offset } };
+}
+
+impl Term {
+    pub fn new(base: Option<Var>, offset: i64) -> Term
+        requires { IsTerm base offset }
+        ensures { result ≡ record { base = base; offset = offset } }
+    {
+        Term { base, offset }
+    }
+
+    pub fn base(&self) -> Option<Var>
+        ensures { result ≡ self.now.base }
+    {
+        self.base
+    }
+
+    pub fn offset(&self) -> i64
+        ensures { result ≡ self.now.offset }
+    {
+        self.offset
+    }
+}
+
+impl Copied for Var {
+    fn copy(&self, _alloc: Global) -> Result<Var, NoMemory> {
+        Ok(*self)
+    }
+}
+
+impl Copied for Term {
+    fn copy(&self, _alloc: Global) -> Result<Term, NoMemory> {
+        Ok(*self)
+    }
+}
+
+impl Exact for Sort {
+    ghost use Rattle.std.proofs.Common.{rules};
+
+    ghost exact = { Prim.search rules };
+}
+
+impl Exact for Var {
+    ghost use Rattle.std.proofs.Common.{rules};
+
+    ghost exact = { Prim.search rules };
+}
+
+impl Exact for Term {
+    ghost use Rattle.std.proofs.Common.{rules};
+
+    ghost exact = { Prim.search rules };
+}
