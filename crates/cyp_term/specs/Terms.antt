@@ -1,17 +1,17 @@
 -- Terms, set terms, literals and substitutions as they are written.
-use Rattle.std.specs.Prelude.{◌≡◌, ◌==◌, Bool, true, false, cond, not, ◌&&◌, ◌||◌, ◌↔◌, List, [], ◌∷◌, ◌++◌, map, flat_map, ℤ, pos, ◌+ℤ◌, ◌≤ℤ◌, ◌<ℤ◌, nat_abs, nat_le, IsTrue, Option, Some, None}
+use Rattle.std.specs.Prelude.{[], ◌&&◌, ◌++◌, ◌+ℤ◌, ◌==◌, Bool, List, None, Option, Some, cond, false, flat_map, map, nat_abs, nat_le, not, pos, true, ◌||◌, ℤ, ◌∷◌}
 use Rattle.std.specs.List.{list_any}
 use Rattle.std.specs.Ordering.{int_eq}
-use Rattle.cyp_term.specs.declared.term.Sort.{Sort}
-use Rattle.cyp_term.specs.declared.term.Sort.TheVariants.{Int, Card, Set}
-use Rattle.cyp_term.specs.declared.term.Var.{Var}
-use Rattle.cyp_term.specs.declared.term.Term.{Term}
-use Rattle.cyp_term.specs.declared.lit.SetTerm.{SetTerm}
 use Rattle.cyp_term.specs.declared.lit.Lit.{Lit}
-use Rattle.cyp_term.specs.declared.lit.Lit.TheVariants.{Eq, Ne, Le, Lt, Same, NotSame, Member, NotMember, Sub, NotSub}
+use Rattle.cyp_term.specs.declared.lit.Lit.TheVariants.{Eq, Le, Lt, Member, Ne, NotMember, NotSame, NotSub, Same, Sub}
+use Rattle.cyp_term.specs.declared.lit.SetTerm.{SetTerm}
 use Rattle.cyp_term.specs.declared.subst.IntBind.{IntBind}
 use Rattle.cyp_term.specs.declared.subst.SetBind.{SetBind}
 use Rattle.cyp_term.specs.declared.subst.Subst.{Subst}
+use Rattle.cyp_term.specs.declared.term.Sort.{Sort}
+use Rattle.cyp_term.specs.declared.term.Sort.TheVariants.{Card, Int, Set}
+use Rattle.cyp_term.specs.declared.term.Term.{Term}
+use Rattle.cyp_term.specs.declared.term.Var.{Var}
 
 -- ---- equality of what is written
 
@@ -107,6 +107,22 @@ lit_vars (NotMember a b) = term_vars a ++ set_vars b
 lit_vars (Sub a b) = set_vars a ++ set_vars b
 lit_vars (NotSub a b) = set_vars a ++ set_vars b
 
+abbrev pub lits_vars : List Lit → List Var
+lits_vars ls = flat_map lit_vars ls
+
+-- the element terms of a literal: those in braces and those left of `in`
+abbrev pub lit_elements : Lit → List Term
+lit_elements (Same a b) = a.elems ++ b.elems
+lit_elements (NotSame a b) = a.elems ++ b.elems
+lit_elements (Member t b) = t ∷ b.elems
+lit_elements (NotMember t b) = t ∷ b.elems
+lit_elements (Sub a b) = a.elems ++ b.elems
+lit_elements (NotSub a b) = a.elems ++ b.elems
+lit_elements _ = []
+
+abbrev pub is_set_var : Var → Bool
+is_set_var v = sort_eq v.sort Set
+
 -- the variable is one of these
 abbrev pub var_in : Var → List Var → Bool
 var_in v vs = list_any (var_eq v) vs
@@ -175,13 +191,13 @@ apply_lit by (Sub a b) = Sub (apply_set by a) (apply_set by b)
 apply_lit by (NotSub a b) = NotSub (apply_set by a) (apply_set by b)
 
 -- a variable that stands for a cardinality; its image is a bare variable
+abbrev pub base_or : Var → Option Var → Var
+base_or v None = v
+base_or v (Some w) = w
+
 abbrev pub var_at : Var → Option Term → Var
 var_at v None = v
 var_at v (Some to) = base_or v to.base
-  where
-    base_or : Var → Option Var → Var
-    base_or w None = w
-    base_or w (Some x) = x
 
 abbrev pub apply_var : Subst → Var → Var
 apply_var by v = var_at v (int_image by.ints v)

@@ -1,0 +1,2 @@
+//! The rows of Call: definitions.
+#![tactic(auto)]

@@ -1,0 +1,2 @@
+//! The rows of the rules that unfold nothing: definitions.
+#![tactic(auto)]

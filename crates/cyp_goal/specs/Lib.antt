@@ -1,0 +1,6 @@
+pub mod Solving
+pub mod Tidying
+pub mod Pruning
+pub mod Numbering
+pub mod Normal
+pub mod Facts

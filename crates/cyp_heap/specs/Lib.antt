@@ -1,0 +1,5 @@
+pub mod BlockValue
+pub mod Chunks
+pub mod Goals
+pub mod Limits
+pub mod Formed

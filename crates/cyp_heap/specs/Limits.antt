@@ -1,0 +1,75 @@
+-- The limits of a node, and its units.
+use Rattle.std.specs.Prelude.{[], ◌&&◌, ◌*◌, ◌+◌, ◌++◌, Bool, List, filter, flat_map, length, map, nat_le, not, sum_by, ℕ}
+use Rattle.std.proofs.lemmas.Int.{ints}
+use Rattle.cyp_heap.specs.Goals.{node_vars}
+use Rattle.cyp_heap.specs.declared.chunk.Arg.{Arg}
+use Rattle.cyp_heap.specs.declared.chunk.Arg.TheVariants.{Int as IntArg, Set as SetArg}
+use Rattle.cyp_heap.specs.declared.chunk.Chunk.{Chunk}
+use Rattle.cyp_heap.specs.declared.chunk.Chunk.TheVariants.{Block, Cell, Inst}
+use Rattle.cyp_heap.specs.declared.goal.Goal.{Goal}
+use Rattle.cyp_heap.specs.declared.goal.Link.{Link}
+use Rattle.cyp_heap.specs.declared.goal.Node.{Node}
+use Rattle.cyp_term.specs.Terms.{is_set_var, lit_elements, term_eq, without_repeats}
+use Rattle.cyp_term.specs.declared.lit.Lit.{Lit}
+use Rattle.cyp_term.specs.declared.lit.Lit.TheVariants.{Member, NotMember, NotSame, NotSub, Same, Sub}
+use Rattle.cyp_term.specs.declared.lit.SetTerm.{SetTerm}
+use Rattle.cyp_term.specs.declared.subst.SetBind.{SetBind}
+use Rattle.cyp_term.specs.declared.term.Term.{Term}
+
+abbrev pub arg_elements : Arg → List Term
+arg_elements (IntArg t) = []
+arg_elements (SetArg u) = u.elems
+
+abbrev pub chunk_elements : Chunk → List Term
+chunk_elements (Inst i) = flat_map arg_elements i.args
+chunk_elements _ = []
+
+abbrev pub goal_elements : Goal → List Term
+goal_elements g =
+    flat_map lit_elements g.pure_pre ++ flat_map chunk_elements g.pre.chunks ++ flat_map lit_elements g.pure_post ++ flat_map chunk_elements g.post.chunks
+
+-- the parts of a set term
+abbrev pub set_units : SetTerm → ℕ
+set_units u = length u.vars + length u.elems
+
+abbrev pub arg_units : Arg → ℕ
+arg_units (IntArg t) = 1
+arg_units (SetArg u) = set_units u
+
+-- a chunk is a unit, and each integer term and each part of a set term in it is one
+abbrev pub chunk_units : Chunk → ℕ
+chunk_units (Inst i) = 1 + sum_by arg_units i.args
+chunk_units (Block k) = 2
+chunk_units (Cell k) = 3
+
+abbrev pub lit_units : Lit → ℕ
+lit_units (Same a b) = 1 + set_units a + set_units b
+lit_units (NotSame a b) = 1 + set_units a + set_units b
+lit_units (Member t b) = 2 + set_units b
+lit_units (NotMember t b) = 2 + set_units b
+lit_units (Sub a b) = 1 + set_units a + set_units b
+lit_units (NotSub a b) = 1 + set_units a + set_units b
+lit_units _ = 3
+
+abbrev pub goal_units : Goal → ℕ
+goal_units g =
+    length g.program + sum_by chunk_units g.pre.chunks + sum_by chunk_units g.post.chunks + sum_by lit_units g.pure_pre + sum_by lit_units g.pure_post
+
+-- a map's entry is a unit beside those of its image; what stands in the companion's variables has none
+abbrev pub link_units : Link → ℕ
+link_units k = length k.tuple + 2 * length k.map.ints + sum_by (λ (b : SetBind). 1 + set_units b.to) k.map.sets
+
+abbrev pub node_units : Node → ℕ
+node_units n = goal_units n.goal + sum_by link_units n.links
+
+-- no limit of a node is passed
+abbrev pub is_within_limits : Node → Bool
+is_within_limits n =
+    nat_le (length n.goal.pre.chunks) 16 && nat_le (length n.goal.post.chunks) 16
+    && nat_le (length n.goal.pure_pre) 40 && nat_le (length n.goal.pure_post) 40
+    && nat_le (length n.goal.program) 12
+    && nat_le (length (filter (λ v. not (is_set_var v)) (node_vars n))) 32
+    && nat_le (length (filter is_set_var (node_vars n))) 12
+    && nat_le (length (without_repeats term_eq (goal_elements n.goal))) 6
+    && nat_le (length n.links) 4
+    && nat_le (node_units n) 240

@@ -1,0 +1,2 @@
+//! The measure of a call: definitions.
+#![tactic(auto)]

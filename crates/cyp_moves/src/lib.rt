@@ -1,0 +1,2 @@
+//! The move table, by which a search goes on from a node: definitions.
+#![tactic(auto)]

@@ -1,0 +1,6 @@
+//! What an instance of a predicate unfolds to.
+#![tactic(auto)]
+
+mod unfolded;
+
+pub use unfolded::{Next, Unfolded};

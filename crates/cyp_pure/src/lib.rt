@@ -1,0 +1,2 @@
+//! Entailment over integers and finite sets together: definitions.
+#![tactic(auto)]

@@ -1,0 +1,2 @@
+//! Spaces.
+#![tactic(auto)]

@@ -1,0 +1,2 @@
+//! The rows of Open and Close: definitions.
+#![tactic(auto)]
