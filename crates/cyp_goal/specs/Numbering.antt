@@ -1,6 +1,5 @@
 -- Normal form: new numbers of variables.
 use Rattle.std.specs.Prelude.{[], List, cond, false, filter, map, not, suc, true, ℕ, ◌∷◌}
-use Rattle.std.proofs.lemmas.Int.{ints}
 use Rattle.cyp_heap.specs.Goals.{apply_node, node_vars}
 use Rattle.cyp_heap.specs.declared.goal.Node.{Node}
 use Rattle.cyp_term.specs.Terms.{is_set_var, set_var, sort_eq, var_eq, var_term}

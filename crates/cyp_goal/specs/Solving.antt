@@ -1,6 +1,5 @@
 -- Normal form, its first steps: equations that are solved for a logical variable or an existential.
 use Rattle.std.specs.Prelude.{[], ◌&&◌, Bool, List, None, Option, Some, cond, neg_ℤ, not, option_map, suc, zero, ◌||◌, ℕ, ◌∷◌}
-use Rattle.std.proofs.lemmas.Int.{ints}
 use Rattle.std.specs.List.{list_any}
 use Rattle.std.specs.Option.{option_and_then}
 use Rattle.cyp_heap.specs.Goals.{apply_node, wide_node}

@@ -1,5 +1,5 @@
 -- Chunks of symbolic heaps: their variables, their order, substitution in them.
-use Rattle.std.specs.Prelude.{[], ◌++◌, Bool, List, None, Option, Some, cond, false, flat_map, map, nat_lt, pred, suc, true, zero, ◌||◌, ℕ, ◌∷◌}
+use Rattle.std.specs.Prelude.{[], ◌++◌, Bool, List, None, Option, Some, cond, false, flat_map, map, nat_lt, suc, true, zero, ◌||◌, ℕ, ◌∷◌}
 use Rattle.std.specs.List.{list_any}
 use Rattle.cyp_heap.specs.declared.chunk.Arg.{Arg}
 use Rattle.cyp_heap.specs.declared.chunk.Arg.TheVariants.{Int as IntArg, Set as SetArg}

@@ -1,5 +1,5 @@
 -- What is asked of goals and of the companions of a node.
-use Rattle.std.specs.Prelude.{[], ◌&&◌, ◌+◌, ◌++◌, ◌==◌, Bool, IsTrue, List, None, Option, Some, false, filter, flat_map, is_none, length, nat_le, not, pred, slice_get, true, ℕ, ◌∷◌, ◌≡◌}
+use Rattle.std.specs.Prelude.{[], ◌&&◌, ◌+◌, ◌++◌, ◌==◌, Bool, IsTrue, List, None, Option, Some, false, filter, flat_map, is_none, length, nat_le, not, slice_get, true, ℕ, ◌∷◌, ◌≡◌}
 use Rattle.std.specs.List.{list_all}
 use Rattle.cyp_heap.specs.Chunks.{arg_vars, card_vars, chunks_vars, insts}
 use Rattle.cyp_heap.specs.Limits.{is_within_limits}

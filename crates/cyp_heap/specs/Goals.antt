@@ -1,6 +1,5 @@
 -- Goals, companions and nodes as plain lists: their variables and substitution in them.
 use Rattle.std.specs.Prelude.{◌++◌, Bool, List, flat_map, map, ◌||◌}
-use Rattle.std.proofs.lemmas.Int.{ints}
 use Rattle.std.specs.List.{list_any}
 use Rattle.cyp_heap.specs.Chunks.{apply_heap, chunks_vars, wide_chunk}
 use Rattle.cyp_heap.specs.declared.goal.Goal.{Goal}

@@ -1,5 +1,5 @@
 -- How a companion's precondition lies in a node's.
-use Rattle.std.specs.Prelude.{[], ◌&&◌, ◌++◌, ◌==◌, Bool, List, None, Option, Some, false, filter, filter_map, is_some, map, neg_ℤ, not, option_map, slice_get, take, true, ◌||◌, ℕ, ◌∷◌}
+use Rattle.std.specs.Prelude.{[], ◌&&◌, ◌++◌, ◌==◌, Bool, List, None, Option, Some, cond, false, filter, filter_map, flat_map, is_some, map, neg_ℤ, not, option_map, slice_get, take, true, ◌||◌, ℕ, ◌∷◌}
 use Rattle.std.specs.List.{list_any}
 use Rattle.std.specs.Option.{option_and_then}
 use Rattle.cyp_goal.specs.Solving.{wide_subst}
