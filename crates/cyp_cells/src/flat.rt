@@ -1,0 +1,36 @@
+ghost use Rattle.std.specs.Prelude.{◌≡◌};
+
+use cyp_term::List;
+
+/// A term without an offset: an integer variable by its number, or a number.
+#[derive(Clone, Copy, Debug, PartialEq, Eq, Hash)]
+pub enum FlatTerm {
+    Named(u8),
+    Number(u32),
+}
+
+/// A points-to cell of such terms.
+#[derive(Clone, Copy, Debug, PartialEq, Eq, Hash)]
+pub struct FlatCell {
+    pub at: FlatTerm,
+    pub content: FlatTerm,
+}
+
+/// An equation of such terms.
+#[derive(Clone, Copy, Debug, PartialEq, Eq, Hash)]
+pub struct FlatEquation {
+    pub left: FlatTerm,
+    pub right: FlatTerm,
+}
+
+/// A goal of cells alone. Its pure precondition says that the variables of `positive` are positive,
+/// and its pure postcondition is `equations`. Variables go by their numbers.
+#[derive(Debug, Drop, PartialEq, Eq, Hash)]
+pub struct Flat {
+    pub program: List<u8>,
+    pub exist: List<u8>,
+    pub positive: List<u8>,
+    pub pre: List<FlatCell>,
+    pub equations: List<FlatEquation>,
+    pub post: List<FlatCell>,
+}
