@@ -1,0 +1,11 @@
+mod Cases
+mod Equality
+mod Lists
+mod Numbers
+mod Repeats
+mod Sets
+mod Tests
+mod Parts
+mod Eliminate
+mod Feasible
+mod Integers
