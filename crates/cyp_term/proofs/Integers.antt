@@ -1,28 +1,19 @@
 -- The test of integer literals decides whether integers make them true.
-use Rattle.std.proofs.Common.{ℤ, pos, ◌+ℤ◌, ◌≤ℤ◌, List, [], ◌∷◌, Decides, All, sym, subst, inl, inr}
+use Rattle.std.proofs.Common.{ℤ, pos, ◌+ℤ◌, ◌≤ℤ◌, List, [], ◌∷◌, Decides, sym, subst, inl, inr}
 use Rattle.std.specs.List.{AllByRecursion}
 use Rattle.std.proofs.lemmas.Bool.Decides.{Decides-like}
-use Rattle.std.proofs.lemmas.List.Elements.{All-from_recursion, recursion_from_All}
-use Rattle.cyp_term.specs.declared.term.Var.{Var}
 use Rattle.cyp_term.specs.declared.term.Term.{Term}
 use Rattle.cyp_term.specs.declared.lit.Lit.{Lit}
 use Rattle.cyp_term.specs.declared.lit.Lit.TheVariants.{Eq, Ne, Le, Lt}
-use Rattle.cyp_term.specs.Meaning.{Assignment, value, Truth, AllTrue, Satisfiable}
+use Rattle.cyp_term.specs.Meaning.{Assignment, value}
 use Rattle.cyp_term.proofs.Lists.{SomeOf, Decides-some, SomeOf-weaker, SomeOf-out}
 use Rattle.cyp_term.proofs.Cases.{both-iff}
 use Rattle.cyp_term.specs.Integers.{less, cases_of, all_cases, feasible, ints_fit}
 use Rattle.cyp_term.proofs.Numbers.{≤ℤ_antisym, ≤ℤ_of_eq, lt_from_next, next_from_lt, ne_from_next, next_cases}
+use Rattle.cyp_term.proofs.Literals.{IntTruth}
 use Rattle.cyp_term.proofs.Parts.{Meets, AllMet}
 use Rattle.cyp_term.proofs.Eliminate.{value-plus}
 use Rattle.cyp_term.proofs.Feasible.{Decides-feasible}
-
--- what a literal of integers says; one of sets says nothing
-abbrev pub IntTruth : Assignment → Lit → Type 0
-IntTruth a (Eq s t) = value a s ≡ value a t
-IntTruth a (Ne s t) = ¬ (value a s ≡ value a t)
-IntTruth a (Le s t) = value a s ≤ℤ value a t
-IntTruth a (Lt s t) = value a s <ℤ value a t
-IntTruth a _ = Unit {0}
 
 less-out : (a : Assignment) (s t : Term) → Meets a (less s t) → (value a s +ℤ pos 1) ≤ℤ value a t
 less-out a s t h = subst (λ i. i ≤ℤ value a t) (value-plus a s (pos 1)) h

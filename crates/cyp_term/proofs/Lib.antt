@@ -9,3 +9,5 @@ mod Parts
 mod Eliminate
 mod Feasible
 mod Integers
+mod Literals
+mod Spots

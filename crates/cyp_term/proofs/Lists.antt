@@ -1,5 +1,5 @@
 -- What is among the elements of a list, what tests of lists tell, and when a fact holds of each element or of some.
-use Rattle.std.proofs.Common.{◌≡◌, ◌⊎◌, List, [], ◌∷◌, ◌++◌, map, filter, flat_map, Bool, true, false, cond, ◌||◌, Decides, refl, ap, inl, inr}
+use Rattle.std.proofs.Common.{◌≡◌, ◌⊎◌, ◌↔◌, List, [], ◌∷◌, ◌++◌, map, filter, flat_map, Bool, true, false, cond, ◌||◌, Decides, refl, ap, inl, inr}
 use Rattle.std.specs.List.{AllByRecursion, list_any, list_all}
 use Rattle.std.proofs.lemmas.Bool.{both_ways, and_parts, and_from, or_left, or_right, false≢true}
 use Rattle.std.proofs.lemmas.Bool.Decides.{Decides-or}
@@ -165,3 +165,13 @@ pub SomeOf-map : {X Y : Type 0} (P : X → Type 0) (Q : Y → Type 0) (g : X →
 SomeOf-map P Q g h [] k = absurd k
 SomeOf-map P Q g h (x ∷ xs) (inl k) = inl (h x k)
 SomeOf-map P Q g h (x ∷ xs) (inr k) = inr (SomeOf-map P Q g h xs k)
+
+-- ---- facts of the elements that pass a test, where the others have them anyhow
+module _ {X : Type 0} (test : X → Bool) (P Q : X → Type 0) (alike : (x : X) → test x ≡ true → P x ↔ Q x) (other : (x : X) → test x ≡ false → Q x) where
+  unfiltered : (x : X) (xs : List X) (t : Bool) → test x ≡ t → (AllByRecursion P (filter test xs) ↔ AllByRecursion Q xs) → AllByRecursion P (cond t (x ∷ filter test xs) (filter test xs)) ↔ AllByRecursion Q (x ∷ xs)
+  unfiltered x xs true e ih = (λ h. ((alike x e).0 h.0, ih.0 h.1), λ h. ((alike x e).1 h.0, ih.1 h.1))
+  unfiltered x xs false e ih = (λ h. (other x e, ih.0 h), λ h. ih.1 h.1)
+
+  pub Every-filter : (xs : List X) → AllByRecursion P (filter test xs) ↔ AllByRecursion Q xs
+  Every-filter [] = (λ h. tt, λ h. tt)
+  Every-filter (x ∷ xs) = unfiltered x xs (test x) refl (Every-filter xs)
