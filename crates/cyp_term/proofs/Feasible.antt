@@ -33,7 +33,7 @@ base_agree : (a b : Assignment) (o : Option Var) (n : ℤ) → ((y : Var) → Am
 base_agree a b None n h = refl
 base_agree a b (Some x) n h = ap (λ m. m +ℤ n) (h x (inl refl))
 
-value_agree : (a b : Assignment) (s : Term) → ((y : Var) → Among y (base_vars s.base) → a.number y ≡ b.number y) → value a s ≡ value b s
+pub value_agree : (a b : Assignment) (s : Term) → ((y : Var) → Among y (base_vars s.base) → a.number y ≡ b.number y) → value a s ≡ value b s
 value_agree a b s h = base_agree a b s.base s.offset h
 
 bound_agree : (a b : Assignment) (c : Bound) → ((y : Var) → Among y (bound_vars c) → a.number y ≡ b.number y) → Meets a c → Meets b c

@@ -11,3 +11,10 @@ mod Feasible
 mod Integers
 mod Literals
 mod Spots
+mod Arranged
+mod RegionsFrom
+mod RegionsTo
+mod Arrangements
+mod Regions
+mod Negation
+mod Entailment

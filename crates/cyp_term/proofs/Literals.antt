@@ -1,5 +1,5 @@
--- What literals say of integers alone and of sets alone, and that a literal is true where both say so. The parts are stated
--- so that each is said of every literal: a literal of the other kind says nothing.
+-- What a literal says of integers alone and what it says of sets alone, at any values of its terms. A literal of the other
+-- kind says nothing there.
 use Rattle.std.proofs.Common.{◌≡◌, ◌↔◌, ℤ, pos, ◌+ℤ◌, ◌≤ℤ◌, ◌<ℤ◌, List, [], ◌∷◌, ◌++◌, map, Bool, true, false, not, IsTrue, refl, sym, subst₂}
 use Rattle.std.specs.List.{AllByRecursion, flat_map}
 use Rattle.std.proofs.lemmas.Bool.{false≢true, true≢false}
@@ -16,12 +16,12 @@ use Rattle.cyp_term.proofs.Lists.{Among}
 use Rattle.cyp_term.proofs.Sets.{HaveSame, IsWithin, Decides-int_in, have_same, same_members, is_within, is_subset}
 
 -- ---- the two parts
-abbrev pub IntTruth : Assignment → Lit → Type 0
-IntTruth a (Eq s t) = value a s ≡ value a t
-IntTruth a (Ne s t) = ¬ (value a s ≡ value a t)
-IntTruth a (Le s t) = value a s ≤ℤ value a t
-IntTruth a (Lt s t) = value a s <ℤ value a t
-IntTruth a _ = Unit {0}
+abbrev pub IntTruth : (Term → ℤ) → Lit → Type 0
+IntTruth val (Eq s t) = val s ≡ val t
+IntTruth val (Ne s t) = ¬ (val s ≡ val t)
+IntTruth val (Le s t) = val s ≤ℤ val t
+IntTruth val (Lt s t) = val s <ℤ val t
+IntTruth val _ = Unit {0}
 
 -- the members of a set term, with any integers as the values of the terms
 abbrev pub members_at : (Term → ℤ) → (Var → List ℤ) → SetTerm → List ℤ
@@ -56,19 +56,19 @@ member_iff y z xs us p q =
     (λ h. (Decides-int_in z us).0 (subst₂ IsIn p q h), λ h. subst₂ IsIn (sym p) (sym q) ((Decides-int_in z us).1 h))
 
 -- ---- a literal of one kind
-pub int_truth : (a : Assignment) (l : Lit) → is_int_lit l ≡ true → Truth a l ↔ IntTruth a l
+pub int_truth : (a : Assignment) (l : Lit) → is_int_lit l ≡ true → Truth a l ↔ IntTruth (value a) l
 int_truth a (Eq s t) e = (λ h. h, λ h. h)
 int_truth a (Ne s t) e = (λ h. h, λ h. h)
 int_truth a (Le s t) e = (λ h. h, λ h. h)
 int_truth a (Lt s t) e = (λ h. h, λ h. h)
 int_truth a _ e = absurd (false≢true e)
 
-pub int_nothing : (a : Assignment) (l : Lit) → is_int_lit l ≡ false → IntTruth a l
-int_nothing a (Eq s t) e = absurd (true≢false e)
-int_nothing a (Ne s t) e = absurd (true≢false e)
-int_nothing a (Le s t) e = absurd (true≢false e)
-int_nothing a (Lt s t) e = absurd (true≢false e)
-int_nothing a _ e = tt
+pub int_nothing : (val : Term → ℤ) (l : Lit) → is_int_lit l ≡ false → IntTruth val l
+int_nothing val (Eq s t) e = absurd (true≢false e)
+int_nothing val (Ne s t) e = absurd (true≢false e)
+int_nothing val (Le s t) e = absurd (true≢false e)
+int_nothing val (Lt s t) e = absurd (true≢false e)
+int_nothing val _ e = tt
 
 pub set_truth : (a : Assignment) (l : Lit) → is_int_lit l ≡ false → Truth a l ↔ SetTruth (value a) a.members l
 set_truth a (Same s t) e = same_iff (set_value a s) _ (set_value a t) _ refl refl

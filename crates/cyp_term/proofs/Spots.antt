@@ -12,15 +12,15 @@ use Rattle.cyp_term.specs.declared.lit.SetTerm.{SetTerm}
 use Rattle.cyp_term.specs.declared.lit.Lit.{Lit}
 use Rattle.cyp_term.specs.declared.lit.Lit.TheVariants.{Same, NotSame, Member, NotMember, Sub, NotSub}
 use Rattle.std.specs.Prelude.{flat_map}
-use Rattle.cyp_term.specs.Terms.{var_eq, term_eq}
-use Rattle.cyp_term.proofs.Lists.{Among, Among-left, Among-right, Among-cases}
+use Rattle.cyp_term.specs.Terms.{var_eq, term_eq, var_in}
+use Rattle.cyp_term.proofs.Lists.{Among, Among-left, Among-right, Among-cases, flat_in}
 use Rattle.std.specs.List.{list_any}
 use Rattle.cyp_term.specs.Regions.{elem_terms, lit_set_vars, all_terms, all_set_vars, Spot, has_class, in_spot, allows}
 use Rattle.cyp_term.proofs.Equality.{Decides-var_eq, Decides-term_eq}
 
 -- the spot is that of the integer z
 pub record IsSpotOf (class : Term → ℕ) (val : Term → ℤ) (sets : Var → List ℤ) (terms : List Term) (vars : List Var) (x : Spot) (z : ℤ) : Type 0 where
-  pub region : (v : Var) → Among v vars → Decides (list_any (var_eq v) x.region) (Among z (sets v))
+  pub region : (v : Var) → Among v vars → Decides (var_in v x.region) (Among z (sets v))
   pub classes : (e : Term) → Among e terms → Decides (has_class x.class (class e)) (z ≡ val e)
 
 -- the terms and variables of a set are among those given
@@ -45,7 +45,7 @@ IsLitOf terms vars (NotSub s t) = IsOf terms vars s × IsOf terms vars t
 IsLitOf terms vars _ = Unit {0}
 
 module _ (class : Term → ℕ) (val : Term → ℤ) (sets : Var → List ℤ) (terms : List Term) (vars : List Var) (x : Spot) (z : ℤ) (is : IsSpotOf class val sets terms vars x z) where
-  in_vars : (vs : List Var) → ((v : Var) → Among v vs → Among v vars) → Decides (list_any (λ v. list_any (var_eq v) x.region) vs) (Among z (flat_map sets vs))
+  in_vars : (vs : List Var) → ((v : Var) → Among v vs → Among v vars) → Decides (list_any (λ v. var_in v x.region) vs) (Among z (flat_map sets vs))
   in_vars [] h = (λ e. absurd (false≢true e), λ k. absurd k)
   in_vars (v ∷ vs) h =
       Decides-like _ (λ k. elim k [ inl i ↦ Among-left _ _ _ i | inr i ↦ Among-right _ _ _ i ]) (λ k. Among-cases z (sets v) (flat_map sets vs) k)
@@ -75,16 +75,6 @@ module _ (class : Term → ℕ) (val : Term → ℤ) (sets : Var → List ℤ) (
   Decides-shows_sub s t h k = Decides-and _ _ (Decides-in_spot s h) (Decides-not _ (Decides-in_spot t k))
 
 -- ---- each literal of a list is of the list's terms and variables
-among_terms : (l : Lit) (ls : List Lit) → Among l ls → (e : Term) → Among e (elem_terms l) → Among e (flat_map elem_terms ls)
-among_terms l [] h e k = absurd h
-among_terms l (m ∷ ls) (inl p) e k = Among-left e (elem_terms m) (flat_map elem_terms ls) (rw (← p) k)
-among_terms l (m ∷ ls) (inr h) e k = Among-right e (elem_terms m) (flat_map elem_terms ls) (among_terms l ls h e k)
-
-among_vars : (l : Lit) (ls : List Lit) → Among l ls → (v : Var) → Among v (lit_set_vars l) → Among v (flat_map lit_set_vars ls)
-among_vars l [] h e k = absurd h
-among_vars l (m ∷ ls) (inl p) e k = Among-left e (lit_set_vars m) (flat_map lit_set_vars ls) (rw (← p) k)
-among_vars l (m ∷ ls) (inr h) e k = Among-right e (lit_set_vars m) (flat_map lit_set_vars ls) (among_vars l ls h e k)
-
 pair_of : (terms : List Term) (vars : List Var) (s t : SetTerm) → ((e : Term) → Among e (s.elems ++ t.elems) → Among e terms) → ((v : Var) → Among v (s.vars ++ t.vars) → Among v vars) → IsOf terms vars s × IsOf terms vars t
 pair_of terms vars s t h k = (
   (λ v i. k v (Among-left v s.vars t.vars i), λ e i. h e (Among-left e s.elems t.elems i)),
@@ -103,5 +93,5 @@ lit_of terms vars _ h k = tt
 pub IsLitOf-among : (l : Lit) (ls : List Lit) → Among l ls → IsLitOf (all_terms ls) (all_set_vars ls) l
 unfolding all_terms all_set_vars
 IsLitOf-among l ls h =
-    lit_of (all_terms ls) (all_set_vars ls) l (λ e i. without_repeats_in term_eq Decides-term_eq e (flat_map elem_terms ls) (among_terms l ls h e i))
-    (λ v i. without_repeats_in var_eq Decides-var_eq v (flat_map lit_set_vars ls) (among_vars l ls h v i))
+    lit_of (all_terms ls) (all_set_vars ls) l (λ e i. without_repeats_in term_eq Decides-term_eq e (flat_map elem_terms ls) (flat_in elem_terms e l ls h i))
+    (λ v i. without_repeats_in var_eq Decides-var_eq v (flat_map lit_set_vars ls) (flat_in lit_set_vars v l ls h i))
