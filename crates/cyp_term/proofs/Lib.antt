@@ -18,3 +18,5 @@ mod Arrangements
 mod Regions
 mod Negation
 mod Entailment
+mod Substitution
+mod Examples
