@@ -6,8 +6,8 @@ use Rattle.std.proofs.lemmas.Bool.Decides.{Decides-int_eq, not_from_Decides}
 use Rattle.cyp_term.specs.declared.term.Term.{Term}
 use Rattle.cyp_term.specs.Terms.{term_eq}
 use Rattle.cyp_term.specs.Regions.{term_in, IsArranged}
-use Rattle.cyp_term.proofs.Lists.{Among, Decides-some}
 use Rattle.cyp_term.proofs.Equality.{Decides-term_eq}
+use Rattle.cyp_term.proofs.Lists.{Among, Decides-some}
 
 pub Decides-term_in : (t : Term) (ts : List Term) → Decides (term_in t ts) (Among t ts)
 Decides-term_in t ts = Decides-some (λ y. t ≡ y) (term_eq t) (Decides-term_eq t) ts

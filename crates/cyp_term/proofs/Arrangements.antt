@@ -1,18 +1,17 @@
 -- The arrangements of terms: what their literals say, and that some arrangement fits any values.
 use Rattle.std.proofs.Common.{◌≡◌, ◌⊎◌, ◌↔◌, ℕ, zero, suc, ◌≤◌, ◌<◌, ℤ, List, [], ◌∷◌, map, length, Bool, true, false, cond, ◌==◌, refl, sym, ap, subst, ◌∙◌, inl, inr, arith, le_of_lt, le_refl}
-use Rattle.cyp_term.proofs.Literals.{IntTruth}
 use Rattle.std.specs.List.{AllByRecursion}
 use Rattle.std.proofs.lemmas.Bool.{both_ways, cases_eq, cond-true, cond-false}
 use Rattle.std.proofs.lemmas.Bool.Decides.{Decides-eqb}
-use Rattle.cyp_term.specs.declared.term.Var.{Var}
 use Rattle.cyp_term.specs.declared.term.Term.{Term}
 use Rattle.cyp_term.specs.declared.lit.Lit.TheVariants.{Eq, Ne}
-use Rattle.cyp_term.specs.Meaning.{Assignment, value}
-use Rattle.cyp_term.proofs.Arranged.{Arranged, value_or_not}
-use Rattle.cyp_term.proofs.Lists.{SomeOf, Among, Among-map, Every-among, Every-append, Every-left, Every-right, SomeOf-left, SomeOf-right, some_among}
 use Rattle.cyp_term.specs.Terms.{term_eq}
+use Rattle.cyp_term.specs.Meaning.{Assignment, value}
 use Rattle.cyp_term.specs.Entailment.{up_to, with_class, with_classes, arrangements, class_literal, class_literals}
 use Rattle.cyp_term.proofs.Equality.{Decides-term_eq}
+use Rattle.cyp_term.proofs.Lists.{SomeOf, Among, Among-map, Every-among, Every-append, Every-left, Every-right, SomeOf-left, SomeOf-right, some_among}
+use Rattle.cyp_term.proofs.Literals.{IntTruth}
+use Rattle.cyp_term.proofs.Arranged.{Arranged, value_or_not}
 
 -- ---- the literals of an arrangement say that it is one
 class_literal_in : (class : Term → ℕ) (a : Assignment) (s t : Term) → (value a s ≡ value a t) ↔ (class s ≡ class t) → IntTruth (value a) (class_literal class s t)

@@ -3,9 +3,9 @@ use Rattle.std.proofs.Common.{◌≡◌, ℤ, ◌+ℤ◌, neg_ℤ, ◌≤ℤ◌,
 use Rattle.std.proofs.lemmas.Bool.{cond-true, cond-false}
 use Rattle.cyp_term.specs.declared.term.Var.{Var}
 use Rattle.cyp_term.specs.declared.term.Term.{Term}
+use Rattle.cyp_term.specs.Terms.{plus, var_eq}
 use Rattle.cyp_term.specs.Meaning.{Assignment, base_value, value}
 use Rattle.cyp_term.specs.Integers.{Bound, at_most, offset_by, offset_at, part_by, part, eliminate, eliminate_all}
-use Rattle.cyp_term.specs.Terms.{plus, var_eq}
 use Rattle.cyp_term.proofs.Numbers.{plus-plus, move_low, move_low_back, move_high, move_high_back, cancel, cancel_back}
 use Rattle.cyp_term.proofs.Parts.{Meets, AllMet, PartMet, PartsMet, joined_from_some, some_from_joined}
 

@@ -1,5 +1,5 @@
 -- The tests of satisfiability and of entailment decide what they are meant to decide.
-use Rattle.std.proofs.Common.{◌≡◌, ◌⊎◌, ◌↔◌, ℕ, ℤ, List, [], ◌∷◌, ◌++◌, Bool, true, false, not, IsTrue, Decides, refl, subst, inl, inr}
+use Rattle.std.proofs.Common.{◌≡◌, ◌↔◌, ℕ, ℤ, List, [], ◌∷◌, ◌++◌, Bool, true, false, not, IsTrue, Decides, refl, subst, inl, inr}
 use Rattle.std.specs.List.{AllByRecursion}
 use Rattle.std.proofs.lemmas.Bool.{and_parts, and_from}
 use Rattle.std.proofs.lemmas.Bool.Decides.{Decides-like, Decides-and, Decides-not}
@@ -7,17 +7,17 @@ use Rattle.cyp_term.specs.declared.term.Var.{Var}
 use Rattle.cyp_term.specs.declared.term.Term.{Term}
 use Rattle.cyp_term.specs.declared.lit.Lit.{Lit}
 use Rattle.cyp_term.specs.Terms.{negated}
-use Rattle.cyp_term.specs.Meaning.{Assignment, value, set_value, Truth, AllTrue, Satisfiable, Entails}
+use Rattle.cyp_term.specs.Meaning.{Assignment, value, Truth, AllTrue, Satisfiable, Entails}
 use Rattle.cyp_term.specs.Integers.{is_int_lit, ints_fit}
 use Rattle.cyp_term.specs.Regions.{all_terms, regions_fit}
 use Rattle.cyp_term.specs.Entailment.{arrangements, class_literals, arrangement_fits, satisfiable, entailed}
 use Rattle.cyp_term.proofs.Lists.{Every-append, Every-left, Every-right, some_out, some_holds}
-use Rattle.cyp_term.proofs.Feasible.{value_agree}
-use Rattle.cyp_term.proofs.Negation.{truth_or_negated, not_both}
 use Rattle.cyp_term.proofs.Literals.{IntTruth, SetTruth, int_truth, int_nothing, set_truth, set_nothing}
+use Rattle.cyp_term.proofs.Feasible.{value_agree}
 use Rattle.cyp_term.proofs.Integers.{Decides-ints_fit}
 use Rattle.cyp_term.proofs.Regions.{Decides-parts}
 use Rattle.cyp_term.proofs.Arrangements.{Fits, arranged_in, arranged_out, arrangement_for}
+use Rattle.cyp_term.proofs.Negation.{truth_or_negated, not_both}
 
 -- ---- a literal is true where its integers and its sets say so
 join : (a : Assignment) (l : Lit) (t : Bool) → is_int_lit l ≡ t → IntTruth (value a) l → SetTruth (value a) a.members l → Truth a l

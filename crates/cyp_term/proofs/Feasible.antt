@@ -1,16 +1,16 @@
 -- The test of bounds decides whether integers meet them.
-use Rattle.std.proofs.Common.{◌≡◌, ◌⊎◌, ℤ, ◌+ℤ◌, ◌≤ℤ◌, List, [], ◌∷◌, ◌++◌, Option, Some, None, true, false, Decides, refl, sym, ap, subst₂, ◌∙◌, inl, inr}
+use Rattle.std.proofs.Common.{◌≡◌, ◌⊎◌, ℤ, ◌+ℤ◌, ◌≤ℤ◌, List, [], ◌∷◌, Option, Some, None, true, false, Decides, refl, sym, ap, subst₂, ◌∙◌, inl, inr}
+use Rattle.std.specs.List.{flat_map, list_all}
 use Rattle.std.proofs.lemmas.Bool.{cases_Bool, both_ways}
 use Rattle.std.proofs.lemmas.Bool.Decides.{Decides-and}
 use Rattle.cyp_term.specs.declared.term.Var.{Var}
 use Rattle.cyp_term.specs.declared.term.Term.{Term}
-use Rattle.cyp_term.specs.Meaning.{Assignment, base_value, value}
-use Rattle.cyp_term.proofs.Lists.{Among, Among-left, Among-right}
-use Rattle.cyp_term.specs.Integers.{Bound, at_most, is_met, bound_vars, all_zero, eliminate_all, feasible}
 use Rattle.cyp_term.specs.Terms.{var_eq, base_vars, term_vars}
-use Rattle.std.specs.List.{flat_map, list_all}
+use Rattle.cyp_term.specs.Meaning.{Assignment, base_value, value}
+use Rattle.cyp_term.specs.Integers.{Bound, at_most, is_met, bound_vars, all_zero, eliminate_all, feasible}
 use Rattle.cyp_term.proofs.Numbers.{Decides-int_le}
 use Rattle.cyp_term.proofs.Equality.{Decides-var_eq}
+use Rattle.cyp_term.proofs.Lists.{Among, Among-left, Among-right}
 use Rattle.cyp_term.proofs.Parts.{Meets, AllMet}
 use Rattle.cyp_term.proofs.Eliminate.{put-same, put-other, over, eliminate_all_in, eliminate_all_out}
 

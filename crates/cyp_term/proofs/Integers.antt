@@ -1,15 +1,15 @@
 -- The test of integer literals decides whether integers make them true.
-use Rattle.std.proofs.Common.{ℤ, pos, ◌+ℤ◌, ◌≤ℤ◌, List, [], ◌∷◌, Decides, sym, subst, inl, inr}
+use Rattle.std.proofs.Common.{pos, ◌+ℤ◌, ◌≤ℤ◌, List, [], ◌∷◌, Decides, sym, subst, inl, inr}
 use Rattle.std.specs.List.{AllByRecursion}
 use Rattle.std.proofs.lemmas.Bool.Decides.{Decides-like}
 use Rattle.cyp_term.specs.declared.term.Term.{Term}
 use Rattle.cyp_term.specs.declared.lit.Lit.{Lit}
 use Rattle.cyp_term.specs.declared.lit.Lit.TheVariants.{Eq, Ne, Le, Lt}
 use Rattle.cyp_term.specs.Meaning.{Assignment, value, Truth, Satisfiable}
-use Rattle.cyp_term.proofs.Lists.{Every-filter, SomeOf, Decides-some, SomeOf-weaker, SomeOf-out}
-use Rattle.cyp_term.proofs.Cases.{both-iff}
 use Rattle.cyp_term.specs.Integers.{is_int_lit, int_lits, less, cases_of, all_cases, feasible, ints_fit}
 use Rattle.cyp_term.proofs.Numbers.{≤ℤ_antisym, ≤ℤ_of_eq, lt_from_next, next_from_lt, ne_from_next, next_cases}
+use Rattle.cyp_term.proofs.Lists.{Every-filter, SomeOf, Decides-some, SomeOf-weaker, SomeOf-out}
+use Rattle.cyp_term.proofs.Cases.{both-iff}
 use Rattle.cyp_term.proofs.Literals.{IntTruth, int_truth, int_nothing, AllTrue-every}
 use Rattle.cyp_term.proofs.Parts.{Meets, AllMet}
 use Rattle.cyp_term.proofs.Eliminate.{value-plus}

@@ -1,6 +1,6 @@
 -- What a literal says of integers alone and what it says of sets alone, at any values of its terms. A literal of the other
 -- kind says nothing there.
-use Rattle.std.proofs.Common.{◌≡◌, ◌↔◌, ℤ, pos, ◌+ℤ◌, ◌≤ℤ◌, ◌<ℤ◌, List, [], ◌∷◌, ◌++◌, map, Bool, true, false, not, IsTrue, refl, sym, subst₂}
+use Rattle.std.proofs.Common.{◌≡◌, ◌↔◌, ℤ, ◌≤ℤ◌, ◌<ℤ◌, List, [], ◌∷◌, ◌++◌, map, true, false, IsTrue, refl, sym, subst₂}
 use Rattle.std.specs.List.{AllByRecursion, flat_map}
 use Rattle.std.proofs.lemmas.Bool.{false≢true, true≢false}
 use Rattle.cyp_term.specs.declared.term.Var.{Var}
@@ -11,6 +11,7 @@ use Rattle.cyp_term.specs.declared.lit.Lit.TheVariants.{Eq, Ne, Le, Lt, Same, No
 use Rattle.cyp_term.specs.Meaning.{Assignment, int_in, value, set_value, SameMembers, IsSubset, Truth, AllTrue}
 use Rattle.cyp_term.specs.Integers.{is_int_lit}
 use Rattle.cyp_term.specs.Regions.{term_at_value, set_at_values, lit_at_values}
+use Rattle.cyp_term.proofs.Tests.{not_iff}
 use Rattle.cyp_term.proofs.Numbers.{zero-plus}
 use Rattle.cyp_term.proofs.Lists.{Among}
 use Rattle.cyp_term.proofs.Sets.{HaveSame, IsWithin, Decides-int_in, have_same, same_members, is_within, is_subset}
@@ -37,22 +38,19 @@ SetTruth val sets (NotSub s t) = ¬ IsWithin (members_at val sets s) (members_at
 SetTruth val sets _ = Unit {0}
 
 -- ---- relations of sets, by what is among their elements
-not_iff : {P Q : Type 0} → P ↔ Q → (¬ P) ↔ (¬ Q)
-not_iff h = (λ k q. k (h.1 q), λ k p. k (h.0 p))
-
-same_iff : (xs us ys vs : List ℤ) → xs ≡ us → ys ≡ vs → SameMembers xs ys ↔ HaveSame us vs
-same_iff xs us ys vs p q =
+same_among : (xs us ys vs : List ℤ) → xs ≡ us → ys ≡ vs → SameMembers xs ys ↔ HaveSame us vs
+same_among xs us ys vs p q =
     (λ h. have_same us vs (subst₂ SameMembers p q h), λ h. subst₂ SameMembers (sym p) (sym q) (same_members us vs h))
 
-sub_iff : (xs us ys vs : List ℤ) → xs ≡ us → ys ≡ vs → IsSubset xs ys ↔ IsWithin us vs
-sub_iff xs us ys vs p q =
+sub_among : (xs us ys vs : List ℤ) → xs ≡ us → ys ≡ vs → IsSubset xs ys ↔ IsWithin us vs
+sub_among xs us ys vs p q =
     (λ h. is_within us vs (subst₂ IsSubset p q h), λ h. subst₂ IsSubset (sym p) (sym q) (is_subset us vs h))
 
 abbrev IsIn : ℤ → List ℤ → Type 0
 IsIn z xs = IsTrue (int_in z xs)
 
-member_iff : (y z : ℤ) (xs us : List ℤ) → y ≡ z → xs ≡ us → IsIn y xs ↔ Among z us
-member_iff y z xs us p q =
+member_among : (y z : ℤ) (xs us : List ℤ) → y ≡ z → xs ≡ us → IsIn y xs ↔ Among z us
+member_among y z xs us p q =
     (λ h. (Decides-int_in z us).0 (subst₂ IsIn p q h), λ h. subst₂ IsIn (sym p) (sym q) ((Decides-int_in z us).1 h))
 
 -- ---- a literal of one kind
@@ -71,12 +69,12 @@ int_nothing val (Lt s t) e = absurd (true≢false e)
 int_nothing val _ e = tt
 
 pub set_truth : (a : Assignment) (l : Lit) → is_int_lit l ≡ false → Truth a l ↔ SetTruth (value a) a.members l
-set_truth a (Same s t) e = same_iff (set_value a s) _ (set_value a t) _ refl refl
-set_truth a (NotSame s t) e = not_iff (same_iff (set_value a s) _ (set_value a t) _ refl refl)
-set_truth a (Member t s) e = member_iff (value a t) _ (set_value a s) _ refl refl
-set_truth a (NotMember t s) e = not_iff (member_iff (value a t) _ (set_value a s) _ refl refl)
-set_truth a (Sub s t) e = sub_iff (set_value a s) _ (set_value a t) _ refl refl
-set_truth a (NotSub s t) e = not_iff (sub_iff (set_value a s) _ (set_value a t) _ refl refl)
+set_truth a (Same s t) e = same_among (set_value a s) _ (set_value a t) _ refl refl
+set_truth a (NotSame s t) e = not_iff (same_among (set_value a s) _ (set_value a t) _ refl refl)
+set_truth a (Member t s) e = member_among (value a t) _ (set_value a s) _ refl refl
+set_truth a (NotMember t s) e = not_iff (member_among (value a t) _ (set_value a s) _ refl refl)
+set_truth a (Sub s t) e = sub_among (set_value a s) _ (set_value a t) _ refl refl
+set_truth a (NotSub s t) e = not_iff (sub_among (set_value a s) _ (set_value a t) _ refl refl)
 set_truth a _ e = absurd (true≢false e)
 
 pub set_nothing : (val : Term → ℤ) (sets : Var → List ℤ) (l : Lit) → is_int_lit l ≡ true → SetTruth val sets l
@@ -95,12 +93,12 @@ set_value-at_values : (a : Assignment) (val : Term → ℤ) (u : SetTerm) → se
 set_value-at_values a val u = λ i. flat_map a.members u.vars ++ values-at_value a val u.elems i
 
 pub truth-at_values : (a : Assignment) (val : Term → ℤ) (l : Lit) → is_int_lit l ≡ false → Truth a (lit_at_values val l) ↔ SetTruth val a.members l
-truth-at_values a val (Same s t) e = same_iff _ _ _ _ (set_value-at_values a val s) (set_value-at_values a val t)
-truth-at_values a val (NotSame s t) e = not_iff (same_iff _ _ _ _ (set_value-at_values a val s) (set_value-at_values a val t))
-truth-at_values a val (Member t s) e = member_iff _ _ _ _ (zero-plus (val t)) (set_value-at_values a val s)
-truth-at_values a val (NotMember t s) e = not_iff (member_iff _ _ _ _ (zero-plus (val t)) (set_value-at_values a val s))
-truth-at_values a val (Sub s t) e = sub_iff _ _ _ _ (set_value-at_values a val s) (set_value-at_values a val t)
-truth-at_values a val (NotSub s t) e = not_iff (sub_iff _ _ _ _ (set_value-at_values a val s) (set_value-at_values a val t))
+truth-at_values a val (Same s t) e = same_among _ _ _ _ (set_value-at_values a val s) (set_value-at_values a val t)
+truth-at_values a val (NotSame s t) e = not_iff (same_among _ _ _ _ (set_value-at_values a val s) (set_value-at_values a val t))
+truth-at_values a val (Member t s) e = member_among _ _ _ _ (zero-plus (val t)) (set_value-at_values a val s)
+truth-at_values a val (NotMember t s) e = not_iff (member_among _ _ _ _ (zero-plus (val t)) (set_value-at_values a val s))
+truth-at_values a val (Sub s t) e = sub_among _ _ _ _ (set_value-at_values a val s) (set_value-at_values a val t)
+truth-at_values a val (NotSub s t) e = not_iff (sub_among _ _ _ _ (set_value-at_values a val s) (set_value-at_values a val t))
 truth-at_values a val _ e = absurd (true≢false e)
 
 -- ---- lists of literals

@@ -1,11 +1,11 @@
 -- One variable eliminated: the joined parts are met exactly where some integer at the variable meets the parts.
-use Rattle.std.proofs.Common.{ℤ, pos, ◌≤ℤ◌, List, [], ◌∷◌, ◌++◌, map, inl, inr}
-use Rattle.cyp_term.specs.declared.term.Term.{Term}
+use Rattle.std.proofs.Common.{ℤ, pos, ◌≤ℤ◌, List, [], ◌∷◌, map, inl, inr}
 use Rattle.std.specs.List.{AllByRecursion}
+use Rattle.cyp_term.specs.declared.term.Term.{Term}
 use Rattle.cyp_term.specs.Meaning.{Assignment, value}
 use Rattle.cyp_term.specs.Integers.{Bound, at_most, Part, keep, above, below, kept, lows, highs, pairs, joined}
-use Rattle.cyp_term.proofs.Lists.{Every-append, Every-left, Every-right}
 use Rattle.cyp_term.proofs.Numbers.{≤ℤ_trans, ≤ℤ_cases, ≤ℤ-self}
+use Rattle.cyp_term.proofs.Lists.{Every-append, Every-left, Every-right}
 
 abbrev pub Meets : Assignment → Bound → Type 0
 Meets b (at_most s t) = value b s ≤ℤ value b t

@@ -1,5 +1,5 @@
 -- The test over regions decides whether finite sets exist.
-use Rattle.std.proofs.Common.{◌≡◌, ◌↔◌, ℕ, ℤ, pos, List, map, true, false, not, Decides, ap}
+use Rattle.std.proofs.Common.{◌↔◌, ℕ, ℤ, pos, List, map, not, Decides, ap}
 use Rattle.std.specs.List.{AllByRecursion}
 use Rattle.std.proofs.lemmas.Bool.{not-true, not-false}
 use Rattle.std.proofs.lemmas.Bool.Decides.{Decides-like}
@@ -29,7 +29,7 @@ set_lits_true : (val : Term → ℤ) (a : Assignment) (ls : List Lit) → AllTru
 set_lits_true val a ls =
     let to = AllTrue-map a (lit_at_values val) (set_lits ls) in
     let of = Every-filter (λ l. not (is_int_lit l)) (λ l. Truth a (lit_at_values val l)) (SetTruth val a.members)
-        (λ l e. truth-at_values a val l (not-true (is_int_lit l) e)) (λ l e. set_nothing val a.members l (not-false (is_int_lit l) e)) ls in
+    (λ l e. truth-at_values a val l (not-true (is_int_lit l) e)) (λ l e. set_nothing val a.members l (not-false (is_int_lit l) e)) ls in
     (λ h. of.0 (to.0 h), λ h. to.1 (of.1 h))
 
 pub Decides-regions : (class : Term → ℕ) (ls : List Lit) (val : Term → ℤ) → IsArranged class (all_terms ls) val → Decides (regions_fit class ls) (HasSets val ls)

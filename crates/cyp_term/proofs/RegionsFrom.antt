@@ -1,23 +1,22 @@
 -- Sets that make the literals true pass the test over regions.
-use Rattle.std.proofs.Common.{◌≡◌, ◌≢◌, ◌⊎◌, ◌↔◌, ℕ, ℤ, pos, List, [], ◌∷◌, map, filter, Option, Some, None, Bool, true, false, not, cond, ◌&&◌, ◌==◌, Decides, refl, sym, ap, subst, ◌∙◌, inl, inr}
-use Rattle.cyp_term.proofs.Literals.{SetTruth}
-use Rattle.cyp_term.proofs.Repeats.{without_repeats_in, without_repeats_out}
-use Rattle.cyp_term.specs.Meaning.{int_in}
+use Rattle.std.proofs.Common.{◌≡◌, ◌≢◌, ◌↔◌, ℕ, ℤ, pos, List, [], ◌∷◌, map, filter, Option, Some, None, Bool, true, false, not, cond, ◌&&◌, ◌==◌, Decides, refl, sym, ap, subst, ◌∙◌, inl, inr}
 use Rattle.std.specs.Bool.{beq}
-use Rattle.std.specs.Ordering.{int_eq}
-use Rattle.std.proofs.lemmas.Bool.{false≢true, cases_Bool, both_ways}
-use Rattle.std.proofs.lemmas.Bool.Decides.{Decides-eqb, Decides-int_eq, Decides-like, not_from_Decides}
+use Rattle.std.specs.List.{list_all}
+use Rattle.std.proofs.lemmas.Bool.{false≢true, both_ways}
+use Rattle.std.proofs.lemmas.Bool.Decides.{Decides-eqb, Decides-like}
 use Rattle.cyp_term.specs.declared.term.Var.{Var}
 use Rattle.cyp_term.specs.declared.term.Term.{Term}
 use Rattle.cyp_term.specs.declared.lit.Lit.{Lit}
 use Rattle.cyp_term.specs.declared.lit.Lit.TheVariants.{Same, NotSame, Member, NotMember, Sub, NotSub}
-use Rattle.cyp_term.proofs.Sets.{HaveSame, IsWithin, Decides-int_in, missing, within_or_missing}
 use Rattle.cyp_term.specs.Terms.{var_eq, var_in}
-use Rattle.cyp_term.proofs.Arranged.{Arranged, value_or_not}
-use Rattle.cyp_term.proofs.Lists.{SomeOf, Among, Decides-some, SomeOf-left, SomeOf-right, SomeOf-map, some_holds, Among-left, Among-right, Among-map, map_from, each_from, some_from, filter_in, filter_out}
-use Rattle.std.specs.List.{list_any, list_all}
+use Rattle.cyp_term.specs.Meaning.{int_in}
 use Rattle.cyp_term.specs.Regions.{parts, all_terms, all_set_vars, Spot, in_spot, allows, is_shown, allowed, with_region, choices, spots, classes_of, regions_fit}
 use Rattle.cyp_term.proofs.Equality.{Decides-var_eq}
+use Rattle.cyp_term.proofs.Lists.{SomeOf, Among, Decides-some, SomeOf-left, SomeOf-right, SomeOf-map, some_holds, Among-left, Among-right, Among-map, map_from, each_from, some_from, filter_in, filter_out}
+use Rattle.cyp_term.proofs.Repeats.{without_repeats_in, without_repeats_out}
+use Rattle.cyp_term.proofs.Sets.{HaveSame, IsWithin, Decides-int_in, missing, within_or_missing}
+use Rattle.cyp_term.proofs.Literals.{SetTruth}
+use Rattle.cyp_term.proofs.Arranged.{Arranged, value_or_not}
 use Rattle.cyp_term.proofs.Spots.{IsSpotOf, AllowsAt, IsLitOf, Decides-allows, Decides-shows_same, Decides-shows_sub, IsLitOf-among}
 
 module _ {X : Type 0} (test : X → Bool) where

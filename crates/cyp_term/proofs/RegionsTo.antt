@@ -1,9 +1,8 @@
 -- Where the test over regions passes, sets make the literals true: each class has the members that the choice gives it, and
 -- each region that is allowed outside all classes has one further integer.
 use Rattle.std.proofs.Common.{◌≡◌, ◌⊎◌, ℕ, ℤ, pos, ◌+ℤ◌, ◌≤ℤ◌, ◌<ℤ◌, List, [], ◌∷◌, ◌++◌, map, Option, Some, None, Bool, true, false, not, cond, ◌&&◌, ◌==◌, refl, sym, ap, subst, ◌∙◌, inl, inr}
-use Rattle.cyp_term.proofs.Literals.{SetTruth, members_at}
-use Rattle.cyp_term.proofs.Repeats.{without_repeats_in}
 use Rattle.std.specs.Bool.{beq}
+use Rattle.std.specs.List.{flat_map, list_all}
 use Rattle.std.proofs.lemmas.Bool.{false≢true, both_ways}
 use Rattle.std.proofs.lemmas.Bool.Decides.{Decides-eqb, Decides-like}
 use Rattle.cyp_term.specs.declared.term.Var.{Var}
@@ -11,13 +10,13 @@ use Rattle.cyp_term.specs.declared.term.Term.{Term}
 use Rattle.cyp_term.specs.declared.lit.SetTerm.{SetTerm}
 use Rattle.cyp_term.specs.declared.lit.Lit.{Lit}
 use Rattle.cyp_term.specs.declared.lit.Lit.TheVariants.{Same, NotSame, Member, NotMember, Sub, NotSub}
-use Rattle.std.specs.Prelude.{flat_map}
-use Rattle.cyp_term.specs.Terms.{var_eq, var_in}
-use Rattle.cyp_term.proofs.Arranged.{Arranged}
-use Rattle.cyp_term.proofs.Lists.{SomeOf, Among, Decides-some, SomeOf-cases, Among-cases, Among-map, map_from, each_at, some_out, filter_out, Among-left, Among-right}
-use Rattle.std.specs.List.{list_any, list_all}
+use Rattle.cyp_term.specs.Terms.{var_in}
 use Rattle.cyp_term.specs.Regions.{parts, all_terms, all_set_vars, Spot, in_spot, allows, is_shown, allowed, with_region, choices, spots, classes_of, regions_fit}
 use Rattle.cyp_term.proofs.Numbers.{≤ℤ_trans, ≤ℤ-self, not_le_from_lt, lt_or_le, lt_of_lt_of_le, lt-next, le-next}
+use Rattle.cyp_term.proofs.Lists.{SomeOf, Among, Decides-some, SomeOf-cases, Among-cases, Among-map, map_from, each_at, some_out, filter_out, Among-left, Among-right}
+use Rattle.cyp_term.proofs.Repeats.{without_repeats_in}
+use Rattle.cyp_term.proofs.Literals.{SetTruth, members_at}
+use Rattle.cyp_term.proofs.Arranged.{Arranged}
 use Rattle.cyp_term.proofs.Spots.{IsSpotOf, IsOf, AllowsAt, IsLitOf, Decides-allows, Decides-shows_same, Decides-shows_sub, IsLitOf-among}
 
 abbrev spot : Option ℕ → List Var → Spot

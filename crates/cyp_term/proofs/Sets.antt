@@ -1,5 +1,5 @@
 -- Finite sets as lists: membership is decided, and a set that is not within another has a member that the other lacks.
-use Rattle.std.proofs.Common.{◌≡◌, ◌⊎◌, ◌↔◌, ℤ, pos, List, [], ◌∷◌, Bool, true, false, cond, Decides, refl, sym, subst, ◌∙◌, inl, inr}
+use Rattle.std.proofs.Common.{◌≡◌, ◌⊎◌, ◌↔◌, ℤ, pos, List, [], ◌∷◌, true, false, cond, Decides, refl, sym, subst, ◌∙◌, inl, inr}
 use Rattle.std.specs.Ordering.{int_eq}
 use Rattle.std.proofs.lemmas.Bool.{cases_Bool, both_ways, cond-true, cond-false}
 use Rattle.std.proofs.lemmas.Bool.Decides.{Decides-int_eq, Decides-like, same_from_decides, not_from_Decides}
@@ -40,7 +40,7 @@ unfoldable pub missing : List ℤ → List ℤ → ℤ
 missing [] ys = pos 0
 missing (x ∷ xs) ys = cond (int_in x ys) (missing xs ys) x
 
-abbrev IsMissing : List ℤ → List ℤ → ℤ → Type 0
+abbrev pub IsMissing : List ℤ → List ℤ → ℤ → Type 0
 IsMissing xs ys z = Among z xs × ¬ Among z ys
 
 missing-next : (x : ℤ) (xs ys : List ℤ) → int_in x ys ≡ true → missing (x ∷ xs) ys ≡ missing xs ys
@@ -55,7 +55,7 @@ within_cons : (x : ℤ) (xs ys : List ℤ) → Among x ys → IsWithin xs ys →
 within_cons x xs ys h k z (inl e) = subst (λ w. Among w ys) (sym e) h
 within_cons x xs ys h k z (inr m) = k z m
 
-pub within_or_missing : (xs ys : List ℤ) → IsWithin xs ys ⊎ (Among (missing xs ys) xs × ¬ Among (missing xs ys) ys)
+pub within_or_missing : (xs ys : List ℤ) → IsWithin xs ys ⊎ IsMissing xs ys (missing xs ys)
 within_or_missing [] ys = inl (λ z h. absurd h)
 within_or_missing (x ∷ xs) ys = step (within_or_missing xs ys) (cases_Bool (int_in x ys))
   where

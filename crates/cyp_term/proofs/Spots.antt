@@ -1,9 +1,7 @@
 -- What the tests of a literal at a spot tell of an integer that the spot describes.
 use Rattle.std.proofs.Common.{◌≡◌, ◌↔◌, ℕ, ℤ, List, [], ◌∷◌, ◌++◌, map, not, ◌&&◌, Decides, refl, inl, inr}
-use Rattle.cyp_term.proofs.Literals.{members_at}
-use Rattle.cyp_term.proofs.Repeats.{without_repeats_in}
-use Rattle.cyp_term.proofs.Tests.{Decides-beq, Decides-implies}
 use Rattle.std.specs.Bool.{beq}
+use Rattle.std.specs.List.{flat_map, list_any}
 use Rattle.std.proofs.lemmas.Bool.{false≢true}
 use Rattle.std.proofs.lemmas.Bool.Decides.{Decides-or, Decides-and, Decides-not, Decides-like}
 use Rattle.cyp_term.specs.declared.term.Var.{Var}
@@ -11,12 +9,13 @@ use Rattle.cyp_term.specs.declared.term.Term.{Term}
 use Rattle.cyp_term.specs.declared.lit.SetTerm.{SetTerm}
 use Rattle.cyp_term.specs.declared.lit.Lit.{Lit}
 use Rattle.cyp_term.specs.declared.lit.Lit.TheVariants.{Same, NotSame, Member, NotMember, Sub, NotSub}
-use Rattle.std.specs.Prelude.{flat_map}
 use Rattle.cyp_term.specs.Terms.{var_eq, term_eq, var_in}
-use Rattle.cyp_term.proofs.Lists.{Among, Among-left, Among-right, Among-cases, flat_in}
-use Rattle.std.specs.List.{list_any}
 use Rattle.cyp_term.specs.Regions.{elem_terms, lit_set_vars, all_terms, all_set_vars, Spot, has_class, in_spot, allows}
+use Rattle.cyp_term.proofs.Tests.{Decides-beq, Decides-implies}
 use Rattle.cyp_term.proofs.Equality.{Decides-var_eq, Decides-term_eq}
+use Rattle.cyp_term.proofs.Lists.{Among, Among-left, Among-right, Among-cases, flat_in}
+use Rattle.cyp_term.proofs.Repeats.{without_repeats_in}
+use Rattle.cyp_term.proofs.Literals.{members_at}
 
 -- the spot is that of the integer z
 pub record IsSpotOf (class : Term → ℕ) (val : Term → ℤ) (sets : Var → List ℤ) (terms : List Term) (vars : List Var) (x : Spot) (z : ℤ) : Type 0 where

@@ -4,15 +4,15 @@ use Rattle.std.specs.List.{flat_map}
 use Rattle.cyp_term.specs.declared.term.Var.{Var}
 use Rattle.cyp_term.specs.declared.term.Term.{Term}
 use Rattle.cyp_term.specs.declared.lit.SetTerm.{SetTerm}
-use Rattle.cyp_term.specs.declared.lit.Lit.{Lit}
 use Rattle.cyp_term.specs.declared.lit.Lit.TheVariants.{Eq, Ne, Le, Lt, Same, NotSame, Member, NotMember, Sub, NotSub}
 use Rattle.cyp_term.specs.declared.subst.Subst.{Subst}
-use Rattle.cyp_term.specs.Terms.{var_eq, term_eq, int_image, set_image, term_at, term_base, apply_term, image_or_self, apply_set, apply_lit, without_repeats}
-use Rattle.cyp_term.specs.Meaning.{Assignment, int_in, value, set_value, SameMembers, IsSubset, Truth, image_value, image_members, under, ApplyLaw}
+use Rattle.cyp_term.specs.Terms.{var_eq, term_eq, int_image, set_image, term_at, term_base, apply_term, image_or_self, apply_set, without_repeats}
+use Rattle.cyp_term.specs.Meaning.{Assignment, int_in, value, set_value, SameMembers, IsSubset, image_value, image_members, under, ApplyLaw}
+use Rattle.cyp_term.proofs.Tests.{not_iff}
 use Rattle.cyp_term.proofs.Numbers.{plus-plus}
+use Rattle.cyp_term.proofs.Equality.{Decides-var_eq, Decides-term_eq}
 use Rattle.cyp_term.proofs.Lists.{Among, Among-left, Among-right, Among-cases, Among-map, map_from, flat_in, flat_out}
 use Rattle.cyp_term.proofs.Repeats.{without_repeats_in, without_repeats_out}
-use Rattle.cyp_term.proofs.Equality.{Decides-var_eq, Decides-term_eq}
 use Rattle.cyp_term.proofs.Sets.{HaveSame, same_members}
 
 -- ---- terms
@@ -124,16 +124,13 @@ module _ (by : Subst) (s : Assignment) where
       let us = map image_of u.vars in
       let es = map (apply_term by) u.elems in
       let whole = both_same z (flat_map (set_value s) us) (flat_map (under by s).members u.vars) (map (value s) es) (map (value (under by s)) u.elems)
-          (vars_same u.vars z) (subst (λ ws. Among z (map (value s) es) ↔ Among z ws) (elems_same u.elems) (λ h. h, λ h. h)) in
+      (vars_same u.vars z) (subst (λ ws. Among z (map (value s) es) ↔ Among z ws) (elems_same u.elems) (λ h. h, λ h. h)) in
       (λ h. whole.0 (union_out s us es z h), λ h. union_in s us es z (whole.1 h))
 
   pub set_value-apply_set : (u : SetTerm) → SameMembers (set_value s (apply_set by u)) (set_value (under by s) u)
   set_value-apply_set u = same_members _ _ (value-apply_set u)
 
 -- ---- literals
-not_iff : {P Q : Type 0} → P ↔ Q → (¬ P) ↔ (¬ Q)
-not_iff h = (λ k q. k (h.1 q), λ k p. k (h.0 p))
-
 pairs_iff : {X : Type 0} (R : X → X → Type 0) (w x y z : X) → w ≡ y → x ≡ z → R w x ↔ R y z
 pairs_iff R w x y z p q = (λ h. subst₂ R p q h, λ h. subst₂ R (sym p) (sym q) h)
 

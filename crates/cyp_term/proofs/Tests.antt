@@ -1,5 +1,5 @@
 -- Tests that decide facts, joined.
-use Rattle.std.proofs.Common.{◌≡◌, ◌↔◌, Bool, true, false, not, ◌||◌, Decides, refl}
+use Rattle.std.proofs.Common.{◌↔◌, Bool, true, false, not, ◌||◌, Decides, refl}
 use Rattle.std.specs.Bool.{beq}
 use Rattle.std.proofs.lemmas.Bool.{false≢true}
 
@@ -19,3 +19,6 @@ pub Decides-implies : {P Q : Type 0} (x y : Bool) → Decides x P → Decides y 
 Decides-implies true true h k = Decides-yes (λ p. k.0 refl)
 Decides-implies true false h k = Decides-no (λ f. false≢true (k.1 (f (h.0 refl))))
 Decides-implies false y h k = Decides-yes (λ p. absurd (false≢true (h.1 p)))
+
+pub not_iff : {P Q : Type 0} → P ↔ Q → (¬ P) ↔ (¬ Q)
+not_iff h = (λ k q. k (h.1 q), λ k p. k (h.0 p))

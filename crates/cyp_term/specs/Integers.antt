@@ -1,6 +1,6 @@
 -- A test of the literals of integers. Each literal is a choice of cases of bounds between terms. Of the bounds of a case the
 -- variables are eliminated one after another (as by Fourier and Motzkin), and what is left is read with zero at each variable.
-use Rattle.std.specs.Prelude.{◌≡◌, ℤ, pos, ◌+ℤ◌, neg_ℤ, ◌≤ℤ◌, int_le, List, [], ◌∷◌, ◌++◌, map, filter, flat_map, Option, Some, None, Bool, true, false, cond, ◌&&◌}
+use Rattle.std.specs.Prelude.{ℤ, pos, neg_ℤ, int_le, List, [], ◌∷◌, ◌++◌, map, filter, flat_map, Option, Some, None, Bool, true, false, cond}
 use Rattle.std.specs.List.{list_any, list_all}
 use Rattle.cyp_term.specs.declared.term.Var.{Var}
 use Rattle.cyp_term.specs.declared.term.Term.{Term}
