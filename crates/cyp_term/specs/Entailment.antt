@@ -14,9 +14,11 @@ abbrev pub up_to : ℕ → List ℕ
 up_to zero = 0 ∷ []
 up_to (suc n) = suc n ∷ up_to n
 
+-- the class k for the term e, and for each other term its class as before
 abbrev pub with_class : Term → (Term → ℕ) → ℕ → Term → ℕ
 with_class e class k t = cond (term_eq t e) k (class t)
 
+-- each of the arrangements with each of the classes for the term e
 abbrev pub with_classes : Term → List ℕ → List (Term → ℕ) → List (Term → ℕ)
 with_classes e ks fs = flat_map (λ f. map (with_class e f) ks) fs
 
@@ -29,10 +31,12 @@ arrangements (e ∷ es) = with_classes e (up_to (length es)) (arrangements es)
 abbrev pub class_literal : (Term → ℕ) → Term → Term → Lit
 class_literal class s t = cond (class s == class t) (Eq s t) (Ne s t)
 
+-- what an arrangement says of all pairs of the terms
 unfoldable pub class_literals : (Term → ℕ) → List Term → List Lit
 class_literals class [] = []
 class_literals class (t ∷ ts) = map (class_literal class t) ts ++ class_literals class ts
 
+-- some assignment makes the literals true and gives the element terms equal values exactly where the arrangement does
 unfoldable pub arrangement_fits : List Lit → (Term → ℕ) → Bool
 arrangement_fits ls class = ints_fit (class_literals class (all_terms ls) ++ ls) && regions_fit class ls
 

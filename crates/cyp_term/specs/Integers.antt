@@ -17,6 +17,7 @@ is_int_lit (Le a b) = true
 is_int_lit (Lt a b) = true
 is_int_lit _ = false
 
+-- the literals that compare integers
 abbrev pub int_lits : List Lit → List Lit
 int_lits ls = filter is_int_lit ls
 
@@ -42,6 +43,7 @@ pub data Part : Type 0 where
   above : Term → Part
   below : Term → Part
 
+-- the number n, where the base is x
 abbrev pub offset_by : Var → Option Var → ℤ → Option ℤ
 offset_by x None n = None
 offset_by x (Some v) n = cond (var_eq v x) (Some n) None
@@ -50,27 +52,33 @@ offset_by x (Some v) n = cond (var_eq v x) (Some n) None
 abbrev pub offset_at : Var → Term → Option ℤ
 offset_at x t = offset_by x t.base t.offset
 
+-- the bound s <= t as it speaks of x, where s adds c to x and t adds d to x, if they are terms of x at all. On both sides x
+-- cancels out
 abbrev pub part_by : Term → Term → Option ℤ → Option ℤ → Part
 part_by s t None None = keep (at_most s t)
 part_by s t None (Some d) = above (plus s (neg_ℤ d))
 part_by s t (Some c) None = below (plus t (neg_ℤ c))
 part_by s t (Some c) (Some d) = keep (at_most (number_term c) (number_term d))
 
+-- the bound as it speaks of x
 abbrev pub part : Var → Bound → Part
 part x (at_most s t) = part_by s t (offset_at x s) (offset_at x t)
 
+-- the bounds that say nothing of the variable
 abbrev pub kept : List Part → List Bound
 kept [] = []
 kept (keep c ∷ ps) = c ∷ kept ps
 kept (above s ∷ ps) = kept ps
 kept (below s ∷ ps) = kept ps
 
+-- the terms that the variable is at least
 abbrev pub lows : List Part → List Term
 lows [] = []
 lows (keep c ∷ ps) = lows ps
 lows (above s ∷ ps) = s ∷ lows ps
 lows (below s ∷ ps) = lows ps
 
+-- the terms that the variable is at most
 abbrev pub highs : List Part → List Term
 highs [] = []
 highs (keep c ∷ ps) = highs ps
@@ -81,10 +89,11 @@ highs (below s ∷ ps) = s ∷ highs ps
 abbrev pub pairs : List Term → List Term → List Bound
 pairs ss ts = flat_map (λ s. map (at_most s) ts) ss
 
+-- what is left without the variable: the bounds kept, and that each low is at most each high
 unfoldable pub joined : List Part → List Bound
 joined ps = kept ps ++ pairs (lows ps) (highs ps)
 
--- bounds that some value of x meets exactly where these are met without it
+-- bounds without x, which integers meet exactly where they meet the given ones with some value for x
 unfoldable pub eliminate : Var → List Bound → List Bound
 eliminate x cs = joined (map (part x) cs)
 
@@ -93,6 +102,7 @@ unfoldable pub eliminate_all : List Var → List Bound → List Bound
 eliminate_all [] cs = cs
 eliminate_all (x ∷ xs) cs = eliminate_all xs (eliminate x cs)
 
+-- the variables of the two terms
 abbrev pub bound_vars : Bound → List Var
 bound_vars (at_most s t) = term_vars s ++ term_vars t
 
@@ -118,6 +128,7 @@ cases_of _ = [] ∷ []
 unfoldable pub both : {X : Type 0} → List (List X) → List (List X) → List (List X)
 both cs ds = flat_map (λ c. map (λ d. c ++ d) ds) cs
 
+-- one case of each literal, in all ways
 unfoldable pub all_cases : List Lit → List (List Bound)
 all_cases [] = [] ∷ []
 all_cases (l ∷ ls) = both (cases_of l) (all_cases ls)

@@ -14,6 +14,7 @@ use Rattle.cyp_term.specs.Integers.{is_int_lit}
 
 -- ---- set literals at given values of their element terms
 
+-- the literals that speak of sets
 abbrev pub set_lits : List Lit → List Lit
 set_lits ls = filter (λ l. not (is_int_lit l)) ls
 
@@ -21,6 +22,7 @@ set_lits ls = filter (λ l. not (is_int_lit l)) ls
 abbrev pub term_at_value : (Term → ℤ) → Term → Term
 term_at_value val t = number_term (val t)
 
+-- the set term with its value in place of each element
 abbrev pub set_at_values : (Term → ℤ) → SetTerm → SetTerm
 set_at_values val u = record { vars = u.vars; elems = map (term_at_value val) u.elems }
 
@@ -50,6 +52,7 @@ elem_terms (Sub a b) = a.elems ++ b.elems
 elem_terms (NotSub a b) = a.elems ++ b.elems
 elem_terms _ = []
 
+-- the set variables as they are written
 abbrev pub lit_set_vars : Lit → List Var
 lit_set_vars (Same a b) = a.vars ++ b.vars
 lit_set_vars (NotSame a b) = a.vars ++ b.vars
@@ -59,10 +62,11 @@ lit_set_vars (Sub a b) = a.vars ++ b.vars
 lit_set_vars (NotSub a b) = a.vars ++ b.vars
 lit_set_vars _ = []
 
--- each one once, in the order of their first occurrences
+-- each element term once, in the order of their first occurrences
 unfoldable pub all_terms : List Lit → List Term
 all_terms ls = without_repeats term_eq (flat_map elem_terms ls)
 
+-- each set variable once, in the order of their first occurrences
 unfoldable pub all_set_vars : List Lit → List Var
 all_set_vars ls = without_repeats var_eq (flat_map lit_set_vars ls)
 
@@ -89,10 +93,12 @@ pub record Spot : Type 0 where
   pub class : Option ℕ
   pub region : List Var
 
+-- the integer is the value of the terms of this class
 abbrev pub has_class : Option ℕ → ℕ → Bool
 has_class None k = false
 has_class (Some j) k = j == k
 
+-- the integer is a member of the set term
 abbrev pub in_spot : (Term → ℕ) → Spot → SetTerm → Bool
 in_spot class x u = list_any (λ v. var_in v x.region) u.vars || list_any (λ e. has_class x.class (class e)) u.elems
 
@@ -123,6 +129,7 @@ allowed class ls k = filter (λ r. list_all (allows class (record { class = k; r
 abbrev pub with_region : ℕ → List (List Var) → List (ℕ → List Var) → List (ℕ → List Var)
 with_region k rs fs = flat_map (λ r. map (λ f j. cond (j == k) r (f j)) fs) rs
 
+-- an allowed region for each of the classes, in all ways
 abbrev pub choices : (Term → ℕ) → List Lit → List ℕ → List (ℕ → List Var)
 choices class ls [] = (λ k. []) ∷ []
 choices class ls (k ∷ ks) = with_region k (allowed class ls (Some k)) (choices class ls ks)
@@ -132,6 +139,7 @@ abbrev pub spots : (Term → ℕ) → List Lit → (ℕ → List Var) → List S
 spots class ls f =
     map (λ e. record { class = Some (class e); region = f (class e) }) (all_terms ls) ++ map (λ r. record { class = None; region = r }) (allowed class ls None)
 
+-- the classes of the element terms, each once
 abbrev pub classes_of : (Term → ℕ) → List Lit → List ℕ
 classes_of class ls = without_repeats ◌==◌ (map class (all_terms ls))
 
