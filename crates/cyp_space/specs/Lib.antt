@@ -1,1 +1,2 @@
 pub mod Alts
+pub mod Derivations
