@@ -1,0 +1,14 @@
+use Rattle.std.proofs.Common.{arith, length-append}
+use Rattle.std.proofs.lemmas.Result.{MatchResult-from_err}
+use Rattle.cyp_io.proofs.Read.{front_of_read, read_and_kept, reads_more}
+use Rattle.cyp_io.proofs.all.read_all.Goals as goal
+
+pub returns-in-Failed-clause-bytes : goal.returns-in-Failed-clause-bytes
+returns-in-Failed-clause-bytes g c =
+    front_of_read _ _ c.loop-buf.bytes.items c.args.limit (omega arith)
+    (read_and_kept _ _ _ _ c.loop-buf.invariant.bytes c.in-Failed.ensures.bytes)
+
+pub returns-in_err-extend_from_slice-in-Bytes-clause-lost : goal.returns-in_err-extend_from_slice-in-Bytes-clause-lost
+returns-in_err-extend_from_slice-in-Bytes-clause-lost g c =
+    MatchResult-from_err c.from_residual.result _ _ c.from_residual.ensures.0
+    (λ _. front_of_read _ _ _ _ ? (reads_more _ _ _ _ _ c.loop-buf.invariant.bytes c.in-Bytes.ensures.bytes.2))
