@@ -1,5 +1,6 @@
-use Rattle.std.proofs.Common.{◌≡◌, ℕ, ◌+◌, ◌-◌, ◌≤◌, length, List, ◌++◌, take, drop, ap, Option, None, Some, arith, length-append}
+use Rattle.std.proofs.Common.{◌≡◌, ℕ, ◌+◌, ◌≤◌, length, List, ◌++◌, take, drop, ap, Option, None, Some, arith, length-append}
 use Rattle.std.proofs.lemmas.Grind.{common_steps}
+use Rattle.std.proofs.lemmas.List.{length-take-le}
 use Rattle.std.specs.Io.KnownBytes.{Consumes, Keeps}
 use Rattle.cyp_io.specs.Whole.{ReadsFront}
 
@@ -23,3 +24,9 @@ reads_more None mid new read more c d = tt
 reads_more (Some told) None new read more c d = absurd c
 reads_more (Some told) (Some rest) None read more c d = absurd d
 reads_more (Some told) (Some rest) (Some rest') read more c d = grind (arith, common_steps)
+
+pub front_of_more : (old mid new : Option (List ℕ)) (read buf : List ℕ) (n most : ℕ) → n ≤ length buf → length read + n ≤ most → Consumes old mid read → Consumes mid new (take n buf) → ReadsFront old new most
+front_of_more old mid new read buf n most within fits c d =
+    front_of_read _ _ (read ++ take n buf) most
+    (omega (arith, length-append read (take n buf), length-take-le n buf within))
+    (reads_more old mid new read (take n buf) c d)

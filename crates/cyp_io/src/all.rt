@@ -35,7 +35,7 @@ pub fn read_all<S: Source>(alloc: Global, source: &mut S, limit: usize) -> Resul
     ensures quiet { OnErr result (S.faults source.new ≡ S.faults source.old) }
 {
     let mut bytes = Vec::new(alloc);
-    let mut buf = [0u8; 256];
+    let mut buf = [0u8; 4096];
     while bytes.len() <= limit {
         let room = (limit - bytes.len()).saturating_add(1).min(buf.len());
         match source.read(&mut buf[..room]) {
