@@ -1,4 +1,4 @@
-use Rattle.std.proofs.Common.{◌≡◌, ℕ, ◌+◌, ◌-◌, length, List, take, drop, Option, None, Some, arith, take-add}
+use Rattle.std.proofs.Common.{ℕ, ◌+◌, ◌-◌, length, List, take, drop, Option, None, Some, arith, take-add}
 use Rattle.std.proofs.lemmas.Grind.{common_steps}
 use Rattle.std.specs.Io.KnownBytes.{Appends}
 use Rattle.cyp_io.proofs.Slices.{to_the_end}
