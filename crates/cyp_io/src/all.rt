@@ -48,6 +48,7 @@ pub fn read_all<S: Source>(alloc: Global, source: &mut S, limit: usize) -> Resul
 }
 
 /// Writes all of the text, or the front of it before a fault.
+#[tactic(auto, using(crate::proofs::Appended::appends_more))]
 pub fn write_all<K: Sink>(sink: &mut K, text: &[u8]) -> Writing
     ensures bytes { WritesAll (K.taken sink.old) (K.taken sink.new) text.now result }
     ensures cause { WritingCounts (K.faults sink.old) (K.faults sink.new) result }
