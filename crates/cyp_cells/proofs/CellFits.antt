@@ -124,3 +124,100 @@ differ_known f (t ∷ ts) k x m =
       | inl n ↦ each_known f t ts (k t (inl refl)) (λ u j. k u (inr j)) x n
       | inr n ↦ differ_known f ts (λ u j. k u (inr j)) x n
     ]
+
+-- ---- numbers of a goal
+
+-- a number of a positive variable
+pub positive_known : (f : Flat) (v : ℕ) → Among v f.positive → Among v (all_numbers f)
+positive_known f v m =
+    Among-left v (f.program ++ cells_numbers f.pre ++ cells_numbers f.post ++ f.positive) (equations_numbers f.equations)
+    (Among-right v (f.program ++ cells_numbers f.pre ++ cells_numbers f.post) f.positive m)
+
+-- a number of the precondition
+pub pre_known : (f : Flat) (v : ℕ) → Among v (cells_numbers f.pre) → Among v (all_numbers f)
+pre_known f v m =
+    Among-left v (f.program ++ cells_numbers f.pre ++ cells_numbers f.post ++ f.positive) (equations_numbers f.equations)
+    (Among-left v (f.program ++ cells_numbers f.pre ++ cells_numbers f.post) f.positive
+    (Among-left v (f.program ++ cells_numbers f.pre) (cells_numbers f.post) (Among-right v f.program (cells_numbers f.pre) m)))
+
+-- an address of the precondition
+address_known : (f : Flat) (t : FlatTerm) → Among t (addresses f) → HasKnown f t
+address_known f t m v n =
+    let r = map_from (λ (c : FlatCell). c.at) t f.pre m in
+    let at : Among v (term_numbers r.0.at) = subst (λ u. Among v (term_numbers u)) r.2 n in
+    pre_known f v (flat_in cell_numbers v r.0 f.pre r.1 (Among-left v (term_numbers r.0.at) (term_numbers r.0.content) at))
+
+facts_known : (f : Flat) → IsNamed f → (x : Var) → Among x (lits_vars (facts (goal_of f))) → IsKnown f x
+facts_known f h x m =
+    let e = ap lits_vars (facts-goal_of f h) ∙ flat_map-append lit_vars (map positive_of f.positive) (all_differ (addresses f)) in
+    elim (Among-cases x (lits_vars (map positive_of f.positive)) (lits_vars (all_differ (addresses f))) (subst (λ xs. Among x xs) e m)) [
+      | inl n ↦ positives_known f f.positive (positive_known f) x n
+      | inr n ↦ differ_known f (addresses f) (address_known f) x n
+    ]
+
+-- ---- the limits of the decision
+
+-- literals of the goal's variables alone, without elements
+pub record IsPlain (f : Flat) (ls : List Lit) : Type 0 where
+  pub vars : (x : Var) → Among x (lits_vars ls) → IsKnown f x
+  pub elements : flat_map lit_elements ls ≡ []
+  pub few : length ls ≤ 64
+
+all_known : (f : Flat) (ls : List Lit) → IsNamed f → IsPlain f ls → (x : Var) → Among x (without_repeats var_eq (lits_vars (facts (goal_of f) ++ ls))) → IsKnown f x
+all_known f ls h p x m =
+    let n = without_repeats_out var_eq Decides-var_eq x (lits_vars (facts (goal_of f) ++ ls)) m in
+    let e = flat_map-append lit_vars (facts (goal_of f)) ls in
+    elim (Among-cases x (lits_vars (facts (goal_of f))) (lits_vars ls) (subst (λ xs. Among x xs) e n)) [
+      | inl k ↦ facts_known f h x k
+      | inr k ↦ p.vars x k
+    ]
+
+-- at most as many different variables as the goal has
+few_vars : (f : Flat) (ls : List Lit) → IsNamed f → IsPlain f ls → length (without_repeats var_eq (lits_vars (facts (goal_of f) ++ ls))) ≤ length (once (all_numbers f))
+few_vars f ls h p =
+    let known = all_known f ls h p in
+    let named = λ (x : Var) (m : Among x (lits_vars (facts (goal_of f) ++ ls))).
+      let k = known x (without_repeats_in var_eq Decides-var_eq x (lits_vars (facts (goal_of f) ++ ls)) m) in
+      let o = without_repeats_in (λ v w. v == w) Decides-eqb k.0 (all_numbers f) k.1 in
+      subst (λ y. Among y (map int_var (once (all_numbers f)))) (sym k.2) (Among-map int_var k.0 (once (all_numbers f)) o) in
+    let e = length-map (once (all_numbers f)) int_var in
+    let r = length-without_repeats-le var_eq Decides-var_eq (lits_vars (facts (goal_of f) ++ ls)) (map int_var (once (all_numbers f))) named in
+    subst (λ n. length (without_repeats var_eq (lits_vars (facts (goal_of f) ++ ls))) ≤ n) e r
+
+-- a list with no element
+empty_length : {X : Type 0} (xs : List X) → ((x : X) → Among x xs → ⊥) → length xs ≡ 0
+empty_length [] h = refl
+empty_length (x ∷ xs) h = absurd (h x (inl refl))
+
+no_sets : (f : Flat) (ls : List Lit) → IsNamed f → IsPlain f ls → length (filter is_set_var (without_repeats var_eq (lits_vars (facts (goal_of f) ++ ls)))) ≡ 0
+no_sets f ls h p =
+    empty_length (filter is_set_var (without_repeats var_eq (lits_vars (facts (goal_of f) ++ ls))))
+    (λ x m.
+      let o = filter_out is_set_var x (without_repeats var_eq (lits_vars (facts (goal_of f) ++ ls))) m in
+      let k = all_known f ls h p x o.0 in
+      both_ways (is_set_var x) (ap is_set_var k.2) o.1)
+
+no_elements : (f : Flat) (ls : List Lit) → IsNamed f → IsPlain f ls → flat_map lit_elements (facts (goal_of f) ++ ls) ≡ []
+no_elements f ls h p = flat_map-append lit_elements (facts (goal_of f)) ls ∙ (λ i. no_elements_facts f h i ++ p.elements i)
+
+-- the facts with such literals fit
+pub fits-facts : (f : Flat) (ls : List Lit) → IsCells f → IsPlain f ls → fits (facts (goal_of f)) ls ≡ true
+fits-facts f ls c p =
+    let l : Limits f = limits f c.within in
+    let vs = without_repeats var_eq (lits_vars (facts (goal_of f) ++ ls)) in
+    let many : length vs ≤ length (once (all_numbers f)) = few_vars f ls c.named p in
+    let numbers : length (once (all_numbers f)) ≤ 32 = l.numbers in
+    let kept = length-filter (λ v. not (is_set_var v)) vs in
+    let most = count_by-le-length (λ v. not (is_set_var v)) vs in
+    let ints : length (filter (λ v. not (is_set_var v)) vs) ≤ 32 = omega arith in
+    let sets = no_sets f ls c.named p in
+    let elements : length (without_repeats term_eq (flat_map lit_elements (facts (goal_of f) ++ ls))) ≡ 0 =
+        ap (λ ts. length (without_repeats term_eq ts)) (no_elements f ls c.named p) in
+    let long = length-facts f c.named l in
+    and_from _ _
+    (and_from _ _
+    (and_from _ _
+    (and_from _ _ (le-leb _ 32 ints) (le-leb _ 12 (omega arith)))
+    (le-leb _ 6 (omega arith)))
+    (le-leb _ 320 long))
+    (le-leb _ 64 p.few)
