@@ -17,6 +17,11 @@ pub map-map : {A B : Type 0} (f : A → B) (g : A → A) (h : B → B) → ((x :
 map-map f g h e [] = refl
 map-map f g h e (x ∷ xs) = λ i. e x i ∷ map-map f g h e xs i
 
+-- h behind f is g
+pub map_after : {A B C : Type 0} (f : A → B) (g : A → C) (h : B → C) → ((x : A) → h (f x) ≡ g x) → (xs : List A) → map h (map f xs) ≡ map g xs
+map_after f g h e [] = refl
+map_after f g h e (x ∷ xs) = λ i. e x i ∷ map_after f g h e xs i
+
 -- the same at elements that pass a test
 pub map-map_when : {A B : Type 0} (p : A → Bool) (f : A → B) (g : A → A) (h : B → B) → ((x : A) → IsTrue (p x) → h (f x) ≡ f (g x)) → (xs : List A)
     → IsTrue (list_all p xs) → map h (map f xs) ≡ map f (map g xs)

@@ -93,27 +93,3 @@ first_solved-equation_of exist [] = refl
 first_solved-equation_of exist (e ∷ es) =
     (λ i. pick_at (equation_of e) (map equation_of es) (first_solved-equation_of exist es i) (solved_any-equation_of exist e i))
     ∙ pick_at-equation_of e es (solution exist e) (pick_first exist es)
-
--- ---- what solving keeps
-
--- what the normal form of a goal of cells alone asks for: its addresses are variables, its numbers small, and no existential is an address or positive
-pub record IsPlain (f : Flat) : Type 0 where
-  pub named : IsTrue (list_all (λ (c : FlatCell). is_named c.at) f.pre)
-  pub small : IsSmall f
-  pub apart : IsTrue (list_all (λ v. not (among v (f.positive ++ address_numbers f.pre))) f.exist)
-
--- an existential, and a small term in its place
-record IsPicked (f : Flat) (p : Picked) : Type 0 where
-  there : IsTrue (among p.solution.var f.exist)
-  small : IsTrue (is_small p.solution.to)
-  rest : IsTrue (list_all is_small_equation p.rest)
-
-solved_by : (exist : List ℕ) (s t : FlatTerm) (by : Solution) → IsTrue (is_small t) → solved_side_by exist s t ≡ Some by
-    → IsTrue (among by.var exist) × IsTrue (is_small by.to)
-solved_by exist (Named v) t by h e = ?
-solved_by exist (Number n) t by h e = ?
-
--- a variable and what does not stand at it
-put_kept : (v : ℕ) (t : FlatTerm) (u : FlatTerm) → among v (term_numbers u) ≡ false → put_term v t u ≡ u
-put_kept v t (Named w) h = rw (sym (or_false (v == w)) ∙ h) refl
-put_kept v t (Number n) h = refl
