@@ -76,4 +76,4 @@ cells_apart f h = ap all_apart (cell_addresses-cells f.pre) ∙ all_apart-named 
 pub facts-goal_of : (f : Flat) → IsNamed f → facts (goal_of f) ≡ map positive_of f.positive ++ all_differ (addresses f)
 facts-goal_of f h =
     (λ i. map positive_of f.positive ++ cells_apart f h i ++ all_apart (block_addresses-cells f.pre i))
-      ∙ append-nil (map positive_of f.positive ++ all_differ (addresses f))
+    ∙ append-nil (map positive_of f.positive ++ all_differ (addresses f))

@@ -85,7 +85,7 @@ no_elements_differ (t ∷ ts) =
 no_elements_facts : (f : Flat) → IsNamed f → flat_map lit_elements (facts (goal_of f)) ≡ []
 no_elements_facts f h =
     ap (flat_map lit_elements) (facts-goal_of f h) ∙ flat_map-append lit_elements (map positive_of f.positive) (all_differ (addresses f))
-      ∙ (λ i. no_elements_positive f.positive i ++ no_elements_differ (addresses f) i)
+    ∙ (λ i. no_elements_positive f.positive i ++ no_elements_differ (addresses f) i)
 
 -- ---- variables
 
@@ -177,9 +177,9 @@ few_vars : (f : Flat) (ls : List Lit) → IsNamed f → IsPlain f ls → length 
 few_vars f ls h p =
     let known = all_known f ls h p in
     let named = λ (x : Var) (m : Among x (lits_vars (facts (goal_of f) ++ ls))).
-      let k = known x (without_repeats_in var_eq Decides-var_eq x (lits_vars (facts (goal_of f) ++ ls)) m) in
-      let o = without_repeats_in (λ v w. v == w) Decides-eqb k.0 (all_numbers f) k.1 in
-      subst (λ y. Among y (map int_var (once (all_numbers f)))) (sym k.2) (Among-map int_var k.0 (once (all_numbers f)) o) in
+    let k = known x (without_repeats_in var_eq Decides-var_eq x (lits_vars (facts (goal_of f) ++ ls)) m) in
+    let o = without_repeats_in (λ v w. v == w) Decides-eqb k.0 (all_numbers f) k.1 in
+    subst (λ y. Among y (map int_var (once (all_numbers f)))) (sym k.2) (Among-map int_var k.0 (once (all_numbers f)) o) in
     let e = length-map (once (all_numbers f)) int_var in
     let r = length-without_repeats-le var_eq Decides-var_eq (lits_vars (facts (goal_of f) ++ ls)) (map int_var (once (all_numbers f))) named in
     subst (λ n. length (without_repeats var_eq (lits_vars (facts (goal_of f) ++ ls))) ≤ n) e r
@@ -193,9 +193,9 @@ no_sets : (f : Flat) (ls : List Lit) → IsNamed f → IsPlain f ls → length (
 no_sets f ls h p =
     empty_length (filter is_set_var (without_repeats var_eq (lits_vars (facts (goal_of f) ++ ls))))
     (λ x m.
-      let o = filter_out is_set_var x (without_repeats var_eq (lits_vars (facts (goal_of f) ++ ls))) m in
-      let k = all_known f ls h p x o.0 in
-      both_ways (is_set_var x) (ap is_set_var k.2) o.1)
+    let o = filter_out is_set_var x (without_repeats var_eq (lits_vars (facts (goal_of f) ++ ls))) m in
+    let k = all_known f ls h p x o.0 in
+    both_ways (is_set_var x) (ap is_set_var k.2) o.1)
 
 no_elements : (f : Flat) (ls : List Lit) → IsNamed f → IsPlain f ls → flat_map lit_elements (facts (goal_of f) ++ ls) ≡ []
 no_elements f ls h p = flat_map-append lit_elements (facts (goal_of f)) ls ∙ (λ i. no_elements_facts f h i ++ p.elements i)
@@ -212,7 +212,7 @@ fits-facts f ls c p =
     let ints : length (filter (λ v. not (is_set_var v)) vs) ≤ 32 = omega arith in
     let sets = no_sets f ls c.named p in
     let elements : length (without_repeats term_eq (flat_map lit_elements (facts (goal_of f) ++ ls))) ≡ 0 =
-        ap (λ ts. length (without_repeats term_eq ts)) (no_elements f ls c.named p) in
+    ap (λ ts. length (without_repeats term_eq ts)) (no_elements f ls c.named p) in
     let long = length-facts f c.named l in
     and_from _ _
     (and_from _ _

@@ -83,4 +83,4 @@ has_exist-term_of f (Number n) = refl
 pub is_open-equation : (f : Flat) (a b : FlatTerm) → is_open (goal_of f) (Eq (term_of a) (term_of b)) ≡ (has_existential f a || has_existential f b)
 is_open-equation f a b =
     list_any-append (λ v. var_in v (map int_var f.exist)) (term_vars (term_of a)) (term_vars (term_of b))
-      ∙ (λ i. has_exist-term_of f a i || has_exist-term_of f b i)
+    ∙ (λ i. has_exist-term_of f a i || has_exist-term_of f b i)

@@ -91,7 +91,7 @@ goal_vars-goal_of f =
       ← map-append int_var f.program (cells_numbers f.pre),
       ← map-append int_var (f.program ++ cells_numbers f.pre) (cells_numbers f.post),
       ← map-append int_var (f.program ++ cells_numbers f.pre ++ cells_numbers f.post) f.positive,
-      ← map-append int_var (f.program ++ cells_numbers f.pre ++ cells_numbers f.post ++ f.positive) (equations_numbers f.equations)
+      ← map-append int_var (f.program ++ cells_numbers f.pre ++ cells_numbers f.post ++ f.positive) (equations_numbers f.equations),
     )
     refl
 

@@ -45,7 +45,7 @@ apply_node-node_of v t f ps e =
       e,
       map-map cell_of (put_cell v t) (apply_chunk (put_for v t)) (apply_chunk-cell_of v t) f.pre,
       map-map cell_of (put_cell v t) (apply_chunk (put_for v t)) (apply_chunk-cell_of v t) f.post,
-      map-map equation_of (put_equation v t) (apply_lit (put_for v t)) (apply_lit-equation_of v t) f.equations
+      map-map equation_of (put_equation v t) (apply_lit (put_for v t)) (apply_lit-equation_of v t) f.equations,
     )
     refl
 
