@@ -60,11 +60,11 @@ first_not_shown : (f : Flat) (e : FlatEquation) (es : List FlatEquation) → IsN
     → has_existential f e.left ≡ false → has_existential f e.right ≡ false → same_term e.left e.right ≡ false → some_not_shown f (e ∷ es) ≡ true
 first_not_shown f e es h c l r d =
     let closed = not_from_false (is_open (goal_of f) (equation_of e))
-        (is_open-equation f e.left e.right ∙ or_from (has_existential f e.left) (has_existential f e.right) l r) in
+    (is_open-equation f e.left e.right ∙ or_from (has_existential f e.left) (has_existential f e.right) l r) in
     let rest = filter (λ m. not (is_open (goal_of f) m)) (map equation_of es) in
     ap (list_any (λ m. not (shown (goal_of f) (m ∷ [])))) (cond-true (not (is_open (goal_of f) (equation_of e))) (equation_of e ∷ rest) rest closed)
-      ∙ or_left (not (shown (goal_of f) (equation_of e ∷ []))) (list_any (λ m. not (shown (goal_of f) (m ∷ []))) rest)
-        (not_from_false (shown (goal_of f) (equation_of e ∷ [])) (not_shown f e.left e.right h c d))
+    ∙ or_left (not (shown (goal_of f) (equation_of e ∷ []))) (list_any (λ m. not (shown (goal_of f) (m ∷ []))) rest)
+    (not_from_false (shown (goal_of f) (equation_of e ∷ [])) (not_shown f e.left e.right h c d))
 
 -- ---- dead or not
 

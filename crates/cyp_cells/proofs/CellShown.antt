@@ -36,8 +36,8 @@ not_entailed f a b h c e =
     let k = number_in a + number_in b in
     false_from_ne_true (entailed (facts (goal_of f)) (Eq (term_of a) (term_of b) ∷ []))
     (λ t.
-      let v = ((entailed_law (facts (goal_of f)) (Eq (term_of a) (term_of b) ∷ [])).0 t (above k) (facts_true f k h c)).0 in
-      both_ways (same_term a b) e ((Decides-same_term a b).1 (same_from_value k a b (omega arith) (omega arith) v)))
+    let v = ((entailed_law (facts (goal_of f)) (Eq (term_of a) (term_of b) ∷ [])).0 t (above k) (facts_true f k h c)).0 in
+    both_ways (same_term a b) e ((Decides-same_term a b).1 (same_from_value k a b (omega arith) (omega arith) v)))
 
 -- that terms written differently are equal isn't shown
 pub not_shown : (f : Flat) (a b : FlatTerm) → IsNamed f → is_consistent f ≡ true → same_term a b ≡ false → shown (goal_of f) (Eq (term_of a) (term_of b) ∷ []) ≡ false
@@ -49,10 +49,10 @@ not_shown f a b h c e =
 equation_plain : (f : Flat) (a b : FlatTerm) → HasKnown f a → HasKnown f b → IsPlain f (Eq (term_of a) (term_of b) ∷ [])
 equation_plain f a b h k = record {
   vars = λ x m.
-    elim (Among-cases x (term_vars (term_of a) ++ term_vars (term_of b)) [] m) [
-      | inl n ↦ elim (Among-cases x (term_vars (term_of a)) (term_vars (term_of b)) n) [ inl p ↦ known_term f a h x p | inr q ↦ known_term f b k x q ]
-      | inr n ↦ absurd n
-    ];
+      elim (Among-cases x (term_vars (term_of a) ++ term_vars (term_of b)) [] m) [
+        | inl n ↦ elim (Among-cases x (term_vars (term_of a)) (term_vars (term_of b)) n) [ inl p ↦ known_term f a h x p | inr q ↦ known_term f b k x q ]
+        | inr n ↦ absurd n
+      ];
   elements = refl;
   few = omega arith;
 }
