@@ -42,6 +42,11 @@ pub flat_map-map : {A B C D : Type 0} (f : A → B) (g : A → List C) (h : B �
 flat_map-map f g h k e [] = refl
 flat_map-map f g h k e (x ∷ xs) = rw (e x, flat_map-map f g h k e xs, map-append k (g x) (flat_map g xs)) refl
 
+-- nothing comes of any element
+pub flat_map-map_none : {A B C : Type 0} (f : A → B) (h : B → List C) → ((x : A) → h (f x) ≡ []) → (xs : List A) → flat_map h (map f xs) ≡ []
+flat_map-map_none f h e [] = refl
+flat_map-map_none f h e (x ∷ xs) = rw (e x) (flat_map-map_none f h e xs)
+
 -- ---- tests
 
 pub list_any-map : {A B : Type 0} (f : A → B) (p : A → Bool) (q : B → Bool) → ((x : A) → q (f x) ≡ p x) → (xs : List A) → list_any q (map f xs) ≡ list_any p xs
