@@ -1,7 +1,8 @@
 -- Which numbers stand in a list.
-use Rattle.std.proofs.Common.{◌≡◌, ◌∙◌, ℕ, [], ◌∷◌, ◌++◌, ◌==◌, List, Bool, true, false, cond, not, ◌&&◌, ◌||◌, IsTrue, map, flat_map, refl, sym, ap, inl, inr, ⊎_elim}
+use Rattle.std.proofs.Common.{◌≡◌, ◌∙◌, ℕ, slice_get, slice_set, Some, suc, zero, [], ◌∷◌, ◌++◌, ◌==◌, List, Bool, true, false, cond, not, ◌&&◌, ◌||◌, IsTrue, map, flat_map, refl, sym, ap, inl, inr, ⊎_elim}
 use Rattle.std.specs.List.{list_all, list_any}
 use Rattle.std.proofs.lemmas.Bool.{false≢true, and_parts, and_from, eqb-true, eq-eqb, or_cases, or_left, or_right}
+use Rattle.std.proofs.lemmas.Option.{none-some, same_Some}
 use Rattle.cyp_cells.specs.Cells.{among, once}
 use Rattle.cyp_term.specs.Terms.{with_all_new, with_new}
 
@@ -78,3 +79,23 @@ among-once v xs h = among-with_all_new_right v [] xs h
 -- each number of a list is in the list of all once
 pub all_among_once : (xs : List ℕ) → IsTrue (list_all (λ v. among v (once xs)) xs)
 all_among_once xs = list_all_from (λ v. among v (once xs)) xs (λ v h. among-once v xs h)
+
+-- ---- an element at a place
+
+pub list_all-slice_get : {A : Type 0} (p : A → Bool) (xs : List A) (i : ℕ) (x : A) → slice_get xs i ≡ Some x → IsTrue (list_all p xs) → IsTrue (p x)
+list_all-slice_get p [] i x e h = absurd (none-some x e)
+list_all-slice_get p (y ∷ ys) zero x e h = ap p (sym (same_Some y x e)) ∙ (and_parts (p y) (list_all p ys) h).0
+list_all-slice_get p (y ∷ ys) (suc i) x e h = list_all-slice_get p ys i x e (and_parts (p y) (list_all p ys) h).1
+
+pub list_all-set : {A : Type 0} (p : A → Bool) (xs : List A) (i : ℕ) (x : A) → IsTrue (p x) → IsTrue (list_all p xs) → IsTrue (list_all p (slice_set xs i x))
+list_all-set p [] i x e h = h
+list_all-set p (y ∷ ys) zero x e h = and_from (p x) (list_all p ys) e (and_parts (p y) (list_all p ys) h).1
+list_all-set p (y ∷ ys) (suc i) x e h =
+    let parts : IsTrue (p y) × IsTrue (list_all p ys) = and_parts (p y) (list_all p ys) h in
+    and_from (p y) (list_all p (slice_set ys i x)) parts.0 (list_all-set p ys i x e parts.1)
+
+-- what stands in the list of one element stands in all the lists joined
+pub among-flat_map : {A : Type 0} (f : A → List ℕ) (v : ℕ) (xs : List A) (i : ℕ) (x : A) → slice_get xs i ≡ Some x → IsTrue (among v (f x)) → IsTrue (among v (flat_map f xs))
+among-flat_map f v [] i x e h = absurd (none-some x e)
+among-flat_map f v (y ∷ ys) zero x e h = among_left v (f y) (flat_map f ys) (ap (λ z. among v (f z)) (same_Some y x e) ∙ h)
+among-flat_map f v (y ∷ ys) (suc i) x e h = among_right v (f y) (flat_map f ys) (among-flat_map f v ys i x e h)

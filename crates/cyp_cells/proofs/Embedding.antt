@@ -1,5 +1,5 @@
 -- Variables, terms, cells and literals of goals of cells alone, as those of the general definitions.
-use Rattle.std.proofs.Common.{◌≡◌, ◌∙◌, ℕ, [], ◌∷◌, ◌++◌, ◌==◌, List, Bool, true, false, ◌&&◌, map, filter, pos, refl, ap, append-nil, add-zero, arith, inl, inr, ◌⊎◌, ◌<◌, ne_of_lt, ne_of_gt, le_of_lt}
+use Rattle.std.proofs.Common.{◌≡◌, ◌∙◌, ℕ, [], ◌∷◌, ◌++◌, ◌==◌, List, Bool, true, false, ◌&&◌, map, filter, pos, refl, sym, ap, ap₂, append-nil, add-zero, arith, inl, inr, ◌⊎◌, ◌<◌, ne_of_lt, ne_of_gt, le_of_lt}
 use Rattle.std.proofs.lemmas.Bool.{cases_order, eq-eqb, le-ltb, lt-ltb, ne_eqb}
 use Rattle.std.proofs.lemmas.List.{map-append}
 use Rattle.std.specs.Ordering.{int_eq}
@@ -81,8 +81,17 @@ pub lits_vars-positive_of : (vs : List ℕ) → lits_vars (map positive_of vs) �
 lits_vars-positive_of [] = refl
 lits_vars-positive_of (v ∷ vs) = ap (λ ws. int_var v ∷ ws) (lits_vars-positive_of vs)
 
+pub both_vars : {us ws : List Var} (vs xs : List ℕ) → us ≡ map int_var vs → ws ≡ map int_var xs → us ++ ws ≡ map int_var (vs ++ xs)
+both_vars vs xs e d = ap₂ ◌++◌ e d ∙ sym (map-append int_var vs xs)
+
+-- four lists of variables
+pub joined : {s t u w : List Var} (as' bs cs ds : List ℕ) → s ≡ map int_var as' → t ≡ map int_var bs → u ≡ map int_var cs → w ≡ map int_var ds
+    → s ++ t ++ u ++ w ≡ map int_var (as' ++ bs ++ cs ++ ds)
+joined as' bs cs ds e f g h = both_vars (as' ++ bs ++ cs) ds (both_vars (as' ++ bs) cs (both_vars as' bs e f) g) h
+
 pub goal_vars-goal_of : (f : Flat) → goal_vars (goal_of f) ≡ map int_var (all_numbers f)
 goal_vars-goal_of f =
+<<<<<<< HEAD
     rw (
       chunks_vars-cell_of f.pre,
       chunks_vars-cell_of f.post,
@@ -94,6 +103,11 @@ goal_vars-goal_of f =
       ← map-append int_var (f.program ++ cells_numbers f.pre ++ cells_numbers f.post ++ f.positive) (equations_numbers f.equations),
     )
     refl
+=======
+    both_vars (f.program ++ cells_numbers f.pre ++ cells_numbers f.post ++ f.positive) (equations_numbers f.equations)
+    (joined f.program (cells_numbers f.pre) (cells_numbers f.post) f.positive refl (chunks_vars-cell_of f.pre) (chunks_vars-cell_of f.post) (lits_vars-positive_of f.positive))
+    (lits_vars-equation_of f.equations)
+>>>>>>> ae3ddb404be5eb8b64ee7a636ce95daf29e86528
 
 pub node_vars-node_of : (f : Flat) → node_vars (node_of f) ≡ map int_var (once (all_numbers f))
 node_vars-node_of f =

@@ -1,8 +1,9 @@
 -- Lists under a map, where tests and equalities agree before and behind it.
-use Rattle.std.proofs.Common.{◌≡◌, ◌∙◌, [], ◌∷◌, ◌++◌, List, Bool, true, false, cond, ◌&&◌, ◌||◌, IsTrue, map, filter, flat_map, refl, ap}
+use Rattle.std.proofs.Common.{◌≡◌, ◌∙◌, [], ◌∷◌, ◌++◌, List, Bool, true, false, cond, ◌&&◌, ◌||◌, IsTrue, map, filter, flat_map, refl, ap, sym, slice_get, slice_set, Some, suc, zero, ℕ}
 use Rattle.std.specs.List.{list_all, list_any}
 use Rattle.std.proofs.lemmas.Bool.{and_parts, and_from}
 use Rattle.std.proofs.lemmas.List.{map-append, map_push}
+use Rattle.std.proofs.lemmas.Option.{same_Some}
 use Rattle.cyp_term.specs.Terms.{with_all_new, with_new, without_repeats}
 
 -- a function at a choice is the choice of its values
@@ -41,6 +42,17 @@ pub flat_map-map : {A B C D : Type 0} (f : A → B) (g : A → List C) (h : B �
     → flat_map h (map f xs) ≡ map k (flat_map g xs)
 flat_map-map f g h k e [] = refl
 flat_map-map f g h k e (x ∷ xs) = rw (e x, flat_map-map f g h k e xs, map-append k (g x) (flat_map g xs)) refl
+
+-- a write of what the map can't tell from what stands there
+pub map-set_same : {A B : Type 0} (f : A → B) (xs : List A) (i : ℕ) (x y : A) → slice_get xs i ≡ Some x → f y ≡ f x → map f (slice_set xs i y) ≡ map f xs
+map-set_same f [] i x y e h = refl
+map-set_same f (z ∷ zs) zero x y e h = λ i. (h ∙ ap f (sym (same_Some z x e))) i ∷ map f zs
+map-set_same f (z ∷ zs) (suc i) x y e h = ap (λ us. f z ∷ us) (map-set_same f zs i x y e h)
+
+-- nothing comes of any element
+pub flat_map-map_none : {A B C : Type 0} (f : A → B) (h : B → List C) → ((x : A) → h (f x) ≡ []) → (xs : List A) → flat_map h (map f xs) ≡ []
+flat_map-map_none f h e [] = refl
+flat_map-map_none f h e (x ∷ xs) = rw (e x) (flat_map-map_none f h e xs)
 
 -- ---- tests
 

@@ -75,7 +75,7 @@ solved_any-equation_of exist e =
 abbrev pub picked_of : Picked → Subst × List Lit
 picked_of p = (subst_of p.solution, map equation_of p.rest)
 
-abbrev pick_at : Lit → List Lit → Option (Subst × List Lit) → Option Subst → Option (Subst × List Lit)
+abbrev pub pick_at : Lit → List Lit → Option (Subst × List Lit) → Option Subst → Option (Subst × List Lit)
 pick_at l ls later o = elim o [
   | Some by ↦ Some (by, ls)
   | None ↦ option_map (λ (p : Subst × List Lit). (p.0, l ∷ p.1)) later
