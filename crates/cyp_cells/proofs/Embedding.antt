@@ -3,7 +3,7 @@ use Rattle.std.proofs.Common.{◌≡◌, ◌∙◌, ℕ, [], ◌∷◌, ◌++◌
 use Rattle.std.proofs.lemmas.Bool.{cases_order, eq-eqb, le-ltb, lt-ltb, ne_eqb}
 use Rattle.std.proofs.lemmas.List.{map-append}
 use Rattle.std.specs.Ordering.{int_eq}
-use Rattle.cyp_cells.proofs.MapLaws.{filter_empty, filter_full, flat_map-map, list_any-map, without_repeats-map}
+use Rattle.cyp_cells.proofs.MapLaws.{filter_empty, flat_map-map, list_any-map, without_repeats-map}
 use Rattle.cyp_cells.specs.CellNormal.{FlatRenaming, same_equation}
 use Rattle.cyp_cells.specs.Cells.{all_numbers, among, cell_numbers, cell_of, cells_numbers, equation_numbers, equation_of, equations_numbers, goal_of, int_var, node_of, once, positive_of, same_term, term_numbers, term_of}
 use Rattle.cyp_cells.specs.declared.flat.Flat.{Flat}
@@ -91,23 +91,9 @@ joined as' bs cs ds e f g h = both_vars (as' ++ bs ++ cs) ds (both_vars (as' ++ 
 
 pub goal_vars-goal_of : (f : Flat) → goal_vars (goal_of f) ≡ map int_var (all_numbers f)
 goal_vars-goal_of f =
-<<<<<<< HEAD
-    rw (
-      chunks_vars-cell_of f.pre,
-      chunks_vars-cell_of f.post,
-      lits_vars-positive_of f.positive,
-      lits_vars-equation_of f.equations,
-      ← map-append int_var f.program (cells_numbers f.pre),
-      ← map-append int_var (f.program ++ cells_numbers f.pre) (cells_numbers f.post),
-      ← map-append int_var (f.program ++ cells_numbers f.pre ++ cells_numbers f.post) f.positive,
-      ← map-append int_var (f.program ++ cells_numbers f.pre ++ cells_numbers f.post ++ f.positive) (equations_numbers f.equations),
-    )
-    refl
-=======
     both_vars (f.program ++ cells_numbers f.pre ++ cells_numbers f.post ++ f.positive) (equations_numbers f.equations)
     (joined f.program (cells_numbers f.pre) (cells_numbers f.post) f.positive refl (chunks_vars-cell_of f.pre) (chunks_vars-cell_of f.post) (lits_vars-positive_of f.positive))
     (lits_vars-equation_of f.equations)
->>>>>>> ae3ddb404be5eb8b64ee7a636ce95daf29e86528
 
 pub node_vars-node_of : (f : Flat) → node_vars (node_of f) ≡ map int_var (once (all_numbers f))
 node_vars-node_of f =

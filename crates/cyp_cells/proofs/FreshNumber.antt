@@ -1,0 +1,32 @@
+-- The new number of a goal is above all of its numbers.
+use Rattle.std.proofs.Common.{◌≡◌, ℕ, ◌<◌, true, List, [], ◌∷◌, ◌==◌, ◌∙◌, ⊎_elim, arith, eqb-true}
+use Rattle.std.proofs.lemmas.Bool.{false≢true, or_cases}
+use Rattle.std.specs.Bool.{IsTrue}
+use Rattle.cyp_cells.specs.declared.flat.Flat.{Flat}
+use Rattle.cyp_cells.specs.Cells.{all_numbers, among, cells_numbers, once}
+use Rattle.cyp_cells.specs.CellMoves.{above_all, new_number}
+use Rattle.cyp_cells.proofs.Members.{all_among}
+use Rattle.cyp_cells.proofs.Once.{among-once}
+use Rattle.cyp_cells.proofs.Parts.{post_among_all}
+use Rattle.cyp_cells.proofs.Used.{are_used}
+
+-- a number of a list is below the number above all
+pub lt-above_all : (v : ℕ) (vs : List ℕ) → among v vs ≡ true → v < above_all vs
+lt-above_all v [] m = absurd (false≢true m)
+lt-above_all v (w ∷ ws) m =
+    ⊎_elim (λ e. let same : v ≡ w = eqb-true v w e in omega arith)
+    (λ h. let below : v < above_all ws = lt-above_all v ws h in omega arith)
+    (or_cases (v == w) (among v ws) m)
+
+-- a number of the goal is below the new one
+pub lt-new_number : (f : Flat) (v : ℕ) → among v (all_numbers f) ≡ true → v < new_number f
+lt-new_number f v m = lt-above_all v (once (all_numbers f)) (among-once v (all_numbers f) ∙ m)
+
+-- the new number stands nowhere in the goal
+pub new_number_new : (f : Flat) → among (new_number f) (all_numbers f) ≡ true → ⊥
+new_number_new f m = let below : new_number f < new_number f = lt-new_number f (new_number f) m in omega arith
+
+-- it is no existential where each existential is used
+pub new_number_not_exist : (f : Flat) → IsTrue (are_used f) → among (new_number f) f.exist ≡ true → ⊥
+new_number_not_exist f used m =
+    new_number_new f (post_among_all f (new_number f) (all_among (λ v. among v (cells_numbers f.post)) f.exist (new_number f) used m))
