@@ -1,10 +1,8 @@
 -- When a goal of cells alone is dead.
-use Rattle.std.proofs.Common.{◌≡◌, ◌∙◌, [], ◌∷◌, ◌++◌, List, Bool, true, false, not, ◌||◌, cond, IsTrue, map, filter, refl, ap, append-nil}
+use Rattle.std.proofs.Common.{◌≡◌, ◌∙◌, [], ◌∷◌, ◌++◌, List, Bool, true, false, not, map, filter, refl, ap, append-nil}
 use Rattle.std.specs.List.{list_any}
 use Rattle.std.proofs.lemmas.Bool.{cond-true, false≢true, not_from_false, or_from, or_left, true≢false}
 use Rattle.cyp_heap.specs.Chunks.{is_inst}
-use Rattle.cyp_term.specs.declared.lit.Lit.{Lit}
-use Rattle.cyp_term.specs.declared.lit.Lit.TheVariants.{Eq}
 use Rattle.cyp_term.specs.Entailment.{satisfiable}
 use Rattle.cyp_goal.specs.Facts.{facts}
 use Rattle.cyp_step.specs.Shown.{dead, is_open, shown}
@@ -19,20 +17,23 @@ use Rattle.cyp_cells.proofs.CellModels.{satisfiable-facts}
 use Rattle.cyp_cells.proofs.CellShown.{not_shown}
 
 -- ---- from the four tests, in order
+-- dead by its four tests
 abbrev tested : Bool → Bool → Bool → Bool → Bool
 tested s t i a = elim s [ false ↦ false | true ↦ elim t [ false ↦ true | true ↦ elim i [ true ↦ false | false ↦ a ] ] ]
 
+-- not dead where the facts are not satisfiable
 facts_fail : (s t i a : Bool) → s ≡ false → tested s t i a ≡ false
 facts_fail true t i a h = absurd (true≢false h)
 facts_fail false t i a h = refl
 
+-- not dead where all is satisfiable and each equation is shown or open
 all_hold : (s t i a : Bool) → t ≡ true → a ≡ false → tested s t i a ≡ false
 all_hold false t i a h k = refl
 all_hold true false i a h k = absurd (false≢true h)
 all_hold true true true a h k = refl
 all_hold true true false a h k = k
 
--- whether or not facts and equations are satisfiable together
+-- dead where one equation isn't shown, whether or not facts and equations are satisfiable together
 one_fails : (s t i a : Bool) → s ≡ true → i ≡ false → a ≡ true → tested s t i a ≡ true
 one_fails false t i a h j k = h
 one_fails true false i a h j k = refl
@@ -40,6 +41,7 @@ one_fails true true true a h j k = absurd (true≢false j)
 one_fails true true false a h j k = k
 
 -- ---- the tests of a goal of cells alone
+-- cells are no instances
 no_inst : (cs : List FlatCell) → list_any is_inst (map cell_of cs) ≡ false
 no_inst [] = refl
 no_inst (c ∷ cs) = no_inst cs
@@ -52,6 +54,7 @@ with_equations f es = satisfiable (facts (goal_of f) ++ map equation_of es)
 abbrev some_not_shown : Flat → List FlatEquation → Bool
 some_not_shown f es = list_any (λ l. not (shown (goal_of f) (l ∷ []))) (filter (λ l. not (is_open (goal_of f) l)) (map equation_of es))
 
+-- an instance stands in the precondition
 abbrev has_inst : Flat → Bool
 has_inst f = list_any is_inst (map cell_of f.pre)
 

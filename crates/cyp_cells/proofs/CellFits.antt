@@ -1,18 +1,16 @@
 -- The facts of a goal of cells alone are within the limits of the decision of entailment.
-use Rattle.std.proofs.Common.{◌≡◌, ◌⊎◌, ℕ, ◌+◌, ◌*◌, ◌≤◌, [], ◌∷◌, ◌++◌, List, length, Bool, true, false, not, ◌&&◌, ◌==◌, IsTrue, map, filter, flat_map, nat_le, inl, inr, refl, ap, ◌∙◌, subst, sym, arith}
-use Rattle.std.specs.List.{list_any}
+use Rattle.std.proofs.Common.{◌≡◌, ℕ, ◌*◌, ◌≤◌, [], ◌∷◌, ◌++◌, List, length, true, not, ◌&&◌, ◌==◌, IsTrue, map, filter, flat_map, nat_le, inl, inr, refl, ap, ◌∙◌, subst, sym, arith}
 use Rattle.std.proofs.lemmas.Bool.{and_from, and_parts, both_ways, le-leb, leb-true}
 use Rattle.std.proofs.lemmas.Bool.Decides.{Decides-eqb}
 use Rattle.std.proofs.lemmas.Grind.{flat_map-append}
 use Rattle.std.proofs.lemmas.List.{length-append, length-map}
 use Rattle.std.proofs.lemmas.List.Sums.{count_by-le-length, length-filter}
 use Rattle.cyp_term.specs.declared.term.Var.{Var}
-use Rattle.cyp_term.specs.declared.term.Term.{Term}
 use Rattle.cyp_term.specs.declared.lit.Lit.{Lit}
-use Rattle.cyp_term.specs.declared.lit.Lit.TheVariants.{Eq, Ne}
+use Rattle.cyp_term.specs.declared.lit.Lit.TheVariants.{Ne}
 use Rattle.cyp_term.specs.Terms.{is_set_var, lit_elements, lit_vars, lits_vars, term_eq, term_vars, var_eq, without_repeats}
 use Rattle.cyp_term.proofs.Equality.{Decides-var_eq}
-use Rattle.cyp_term.proofs.Lists.{Among, Among-cases, Among-left, Among-map, Among-right, filter_out, flat_in, flat_out, map_from}
+use Rattle.cyp_term.proofs.Lists.{Among, Among-cases, Among-left, Among-map, Among-right, filter_out, flat_in, map_from}
 use Rattle.cyp_term.proofs.Repeats.{without_repeats_in, without_repeats_out}
 use Rattle.cyp_goal.specs.Facts.{facts}
 use Rattle.cyp_pure.specs.Fits.{fits}
@@ -32,6 +30,7 @@ pub record Limits (f : Flat) : Type 0 where
   pub positives : length f.positive ≤ 40
   pub numbers : length (once (all_numbers f)) ≤ 32
 
+-- the limits as the test of them says
 pub limits : (f : Flat) → IsTrue (is_flat_within f) → Limits f
 limits f h =
     let a = nat_le (length f.pre) 16 in
@@ -49,6 +48,7 @@ limits f h =
     record { cells = leb-true (length f.pre) 16 u.0; positives = leb-true (length f.positive) 40 t.1; numbers = leb-true (length (once (all_numbers f))) 32 q.1 }
 
 -- ---- how many facts
+-- at most 16 addresses give at most 16 pairs for each
 length-all_differ : (ts : List FlatTerm) → length ts ≤ 16 → length (all_differ ts) ≤ 16 * length ts
 length-all_differ [] h = omega arith
 length-all_differ (t ∷ ts) h =
@@ -57,6 +57,7 @@ length-all_differ (t ∷ ts) h =
     let m = length-map ts (λ u. Ne (term_of t) (term_of u)) in
     omega arith
 
+-- all facts together
 length-facts : (f : Flat) → IsNamed f → Limits f → length (facts (goal_of f)) ≤ 320
 length-facts f h l =
     let e = ap length (facts-goal_of f h) in
@@ -69,19 +70,23 @@ length-facts f h l =
     omega arith
 
 -- ---- no sets
+-- literals of integers have no elements
 no_elements_positive : (vs : List ℕ) → flat_map lit_elements (map positive_of vs) ≡ []
 no_elements_positive [] = refl
 no_elements_positive (v ∷ vs) = no_elements_positive vs
 
+-- the same for one address with each of some
 no_elements_each : (t : FlatTerm) (ts : List FlatTerm) → flat_map lit_elements (map (λ u. Ne (term_of t) (term_of u)) ts) ≡ []
 no_elements_each t [] = refl
 no_elements_each t (u ∷ us) = no_elements_each t us
 
+-- for each two of some
 no_elements_differ : (ts : List FlatTerm) → flat_map lit_elements (all_differ ts) ≡ []
 no_elements_differ [] = refl
 no_elements_differ (t ∷ ts) =
     flat_map-append lit_elements (map (λ u. Ne (term_of t) (term_of u)) ts) (all_differ ts) ∙ (λ i. no_elements_each t ts i ++ no_elements_differ ts i)
 
+-- for all facts
 no_elements_facts : (f : Flat) → IsNamed f → flat_map lit_elements (facts (goal_of f)) ≡ []
 no_elements_facts f h =
     ap (flat_map lit_elements) (facts-goal_of f h) ∙ flat_map-append lit_elements (map positive_of f.positive) (all_differ (addresses f))
@@ -97,16 +102,19 @@ IsKnown f x = (v : ℕ) × Among v (all_numbers f) × (x ≡ int_var v)
 abbrev pub HasKnown : Flat → FlatTerm → Type 0
 HasKnown f t = (v : ℕ) → Among v (term_numbers t) → Among v (all_numbers f)
 
+-- a term's variables
 pub known_term : (f : Flat) (t : FlatTerm) → HasKnown f t → (x : Var) → Among x (term_vars (term_of t)) → IsKnown f x
 known_term f t h x m =
     let r = map_from int_var x (term_numbers t) (subst (λ xs. Among x xs) (term_vars-term_of t) m) in
     (r.0, h r.0 r.1, r.2)
 
+-- those of positive literals
 positives_known : (f : Flat) (vs : List ℕ) → ((v : ℕ) → Among v vs → Among v (all_numbers f)) → (x : Var) → Among x (lits_vars (map positive_of vs)) → IsKnown f x
 positives_known f [] h x m = absurd m
 positives_known f (v ∷ vs) h x (inl e) = (v, h v (inl refl), e)
 positives_known f (v ∷ vs) h x (inr m) = positives_known f vs (λ w k. h w (inr k)) x m
 
+-- those of one address with each of some
 each_known : (f : Flat) (t : FlatTerm) (ts : List FlatTerm) → HasKnown f t → ((u : FlatTerm) → Among u ts → HasKnown f u)
     → (x : Var) → Among x (lits_vars (map (λ u. Ne (term_of t) (term_of u)) ts)) → IsKnown f x
 each_known f t [] h k x m = absurd m
@@ -116,6 +124,7 @@ each_known f t (u ∷ us) h k x m =
       | inr n ↦ each_known f t us h (λ w j. k w (inr j)) x n
     ]
 
+-- those of each two of some
 differ_known : (f : Flat) (ts : List FlatTerm) → ((u : FlatTerm) → Among u ts → HasKnown f u) → (x : Var) → Among x (lits_vars (all_differ ts)) → IsKnown f x
 differ_known f [] k x m = absurd m
 differ_known f (t ∷ ts) k x m =
@@ -147,6 +156,7 @@ address_known f t m v n =
     let at : Among v (term_numbers r.0.at) = subst (λ u. Among v (term_numbers u)) r.2 n in
     pre_known f v (flat_in cell_numbers v r.0 f.pre r.1 (Among-left v (term_numbers r.0.at) (term_numbers r.0.content) at))
 
+-- those of all facts
 facts_known : (f : Flat) → IsNamed f → (x : Var) → Among x (lits_vars (facts (goal_of f))) → IsKnown f x
 facts_known f h x m =
     let e = ap lits_vars (facts-goal_of f h) ∙ flat_map-append lit_vars (map positive_of f.positive) (all_differ (addresses f)) in
@@ -163,6 +173,7 @@ pub record IsPlain (f : Flat) (ls : List Lit) : Type 0 where
   pub elements : flat_map lit_elements ls ≡ []
   pub few : length ls ≤ 64
 
+-- those of the facts and such literals together, each once
 all_known : (f : Flat) (ls : List Lit) → IsNamed f → IsPlain f ls → (x : Var) → Among x (without_repeats var_eq (lits_vars (facts (goal_of f) ++ ls))) → IsKnown f x
 all_known f ls h p x m =
     let n = without_repeats_out var_eq Decides-var_eq x (lits_vars (facts (goal_of f) ++ ls)) m in
@@ -189,6 +200,7 @@ empty_length : {X : Type 0} (xs : List X) → ((x : X) → Among x xs → ⊥) �
 empty_length [] h = refl
 empty_length (x ∷ xs) h = absurd (h x (inl refl))
 
+-- none is a set
 no_sets : (f : Flat) (ls : List Lit) → IsNamed f → IsPlain f ls → length (filter is_set_var (without_repeats var_eq (lits_vars (facts (goal_of f) ++ ls)))) ≡ 0
 no_sets f ls h p =
     empty_length (filter is_set_var (without_repeats var_eq (lits_vars (facts (goal_of f) ++ ls))))
@@ -197,6 +209,7 @@ no_sets f ls h p =
     let k = all_known f ls h p x o.0 in
     both_ways (is_set_var x) (ap is_set_var k.2) o.1)
 
+-- and there are no elements
 no_elements : (f : Flat) (ls : List Lit) → IsNamed f → IsPlain f ls → flat_map lit_elements (facts (goal_of f) ++ ls) ≡ []
 no_elements f ls h p = flat_map-append lit_elements (facts (goal_of f)) ls ∙ (λ i. no_elements_facts f h i ++ p.elements i)
 

@@ -1,25 +1,22 @@
 -- Whose numbers are numbers of a goal of cells alone: the terms of its cells and equations.
-use Rattle.std.proofs.Common.{◌≡◌, ◌==◌, ℕ, suc, zero, [], ◌∷◌, ◌++◌, List, Option, None, Some, Bool, true, IsTrue, inl, inr, refl, sym, subst}
-use Rattle.std.specs.List.{list_any, slice_get}
+use Rattle.std.proofs.Common.{◌≡◌, ◌==◌, ℕ, suc, zero, [], ◌∷◌, ◌++◌, List, Some, true, Decides, inl, inr}
+use Rattle.std.specs.List.{slice_get}
 use Rattle.std.proofs.lemmas.Bool.Decides.{Decides-eqb}
-use Rattle.cyp_term.proofs.Lists.{Among, Among-left, Among-right, flat_in, some_from, some_out}
+use Rattle.cyp_term.proofs.Lists.{Among, Among-left, Among-right, flat_in}
 use Rattle.cyp_cells.specs.declared.flat.Flat.{Flat}
 use Rattle.cyp_cells.specs.declared.flat.FlatCell.{FlatCell}
-use Rattle.cyp_cells.specs.declared.flat.FlatEquation.{FlatEquation}
 use Rattle.cyp_cells.specs.declared.flat.FlatTerm.{FlatTerm}
-use Rattle.cyp_cells.specs.Cells.{all_numbers, among, cell_numbers, cells_numbers, equation_numbers, equations_numbers, term_numbers}
+use Rattle.cyp_cells.specs.Cells.{all_numbers, among, cell_numbers, cells_numbers, equations_numbers, term_numbers}
+use Rattle.cyp_cells.proofs.Counting.{Decides-among}
 use Rattle.cyp_cells.proofs.CellFits.{HasKnown, pre_known}
 
 -- ---- between the test and the fact
-pub Among-from_test : (v : ℕ) (vs : List ℕ) → among v vs ≡ true → Among v vs
-Among-from_test v vs h = let r = some_out (λ w. v == w) vs h in subst (λ w. Among w vs) (sym ((Decides-eqb v r.0).0 r.2)) r.1
-
-pub test_from_Among : (v : ℕ) (vs : List ℕ) → Among v vs → among v vs ≡ true
-test_from_Among v vs h = some_from (λ w. v == w) v vs h ((Decides-eqb v v).1 refl)
+pub Decides-among-numbers : (v : ℕ) (vs : List ℕ) → Decides (among v vs) (Among v vs)
+Decides-among-numbers v vs = Decides-among (λ w u. w == u) Decides-eqb v vs
 
 -- by the test of each number
 pub HasKnown-from_tests : (f : Flat) (t : FlatTerm) → ((v : ℕ) → among v (term_numbers t) ≡ true → among v (all_numbers f) ≡ true) → HasKnown f t
-HasKnown-from_tests f t h v m = Among-from_test v (all_numbers f) (h v (test_from_Among v (term_numbers t) m))
+HasKnown-from_tests f t h v m = (Decides-among-numbers v (all_numbers f)).0 (h v ((Decides-among-numbers v (term_numbers t)).1 m))
 
 -- ---- elements by place
 pub Among-slice_get : {X : Type 0} (xs : List X) (i : ℕ) (x : X) → slice_get xs i ≡ Some x → Among x xs
@@ -32,6 +29,7 @@ pub record BothKnown (f : Flat) (a b : FlatTerm) : Type 0 where
   pub first : HasKnown f a
   pub second : HasKnown f b
 
+-- what has both terms' numbers
 both_known : (f : Flat) (a b : FlatTerm) → ((v : ℕ) → Among v (term_numbers a ++ term_numbers b) → Among v (all_numbers f)) → BothKnown f a b
 both_known f a b h = record {
   first = λ v m. h v (Among-left v (term_numbers a) (term_numbers b) m);

@@ -1,36 +1,37 @@
 -- What is shown at a goal of cells alone: that terms written alike are equal, and nothing else of two terms.
-use Rattle.std.proofs.Common.{◌≡◌, ◌+◌, [], ◌∷◌, ◌++◌, List, Bool, true, false, IsTrue, inl, inr, refl, ap, arith, ◌≤◌}
+use Rattle.std.proofs.Common.{◌≡◌, ◌+◌, [], ◌∷◌, ◌++◌, Bool, true, false, ◌||◌, inl, inr, refl, ap, arith}
 use Rattle.std.proofs.lemmas.Bool.{false_from_ne_true, both_ways}
-use Rattle.cyp_term.specs.declared.term.Var.{Var}
-use Rattle.cyp_term.specs.declared.lit.Lit.{Lit}
 use Rattle.cyp_term.specs.declared.lit.Lit.TheVariants.{Eq}
 use Rattle.cyp_term.specs.Meaning.{value}
 use Rattle.cyp_term.specs.Entailment.{entailed}
-use Rattle.cyp_term.specs.Terms.{lits_vars, term_vars}
+use Rattle.cyp_term.specs.Terms.{term_vars}
 use Rattle.cyp_term.proofs.Entailment.{entailed_law}
-use Rattle.cyp_term.proofs.Lists.{Among, Among-cases}
+use Rattle.cyp_term.proofs.Lists.{Among-cases}
 use Rattle.cyp_goal.specs.Facts.{facts}
 use Rattle.cyp_pure.specs.Fits.{fits}
-use Rattle.cyp_step.specs.Shown.{shown}
+use Rattle.cyp_step.specs.Shown.{is_open, shown}
 use Rattle.cyp_cells.specs.declared.flat.Flat.{Flat}
 use Rattle.cyp_cells.specs.declared.flat.FlatTerm.{FlatTerm}
 use Rattle.cyp_cells.specs.Cells.{goal_of, same_term, term_of}
-use Rattle.cyp_cells.specs.CellMoves.{IsCells, is_consistent}
-use Rattle.cyp_cells.proofs.CellTerms.{Decides-same_term}
+use Rattle.cyp_cells.specs.CellMoves.{IsCells, is_consistent, may_equal}
+use Rattle.cyp_cells.proofs.CellTerms.{Decides-same_term, is_open-equation}
 use Rattle.cyp_cells.proofs.CellFacts.{IsNamed}
-use Rattle.cyp_cells.proofs.CellFits.{HasKnown, IsKnown, IsPlain, fits-facts, known_term}
+use Rattle.cyp_cells.proofs.CellFits.{HasKnown, IsPlain, fits-facts, known_term}
 use Rattle.cyp_cells.proofs.CellModels.{above, facts_true, number_in, same_from_value}
 
 -- ---- from the two parts of the test
+-- literals that fit and follow are shown
 shown_where : (f e : Bool) → f ≡ true → e ≡ true → elim f [ true ↦ e | false ↦ false ] ≡ true
 shown_where true e h k = k
 shown_where false e h k = h
 
+-- literals that don't follow aren't shown
 shown_nowhere : (f e : Bool) → e ≡ false → elim f [ true ↦ e | false ↦ false ] ≡ false
 shown_nowhere true e k = k
 shown_nowhere false e k = refl
 
 -- ---- terms that are written differently
+-- at values above both numbers the facts are true and the terms differ
 not_entailed : (f : Flat) (a b : FlatTerm) → IsNamed f → is_consistent f ≡ true → same_term a b ≡ false → entailed (facts (goal_of f)) (Eq (term_of a) (term_of b) ∷ []) ≡ false
 not_entailed f a b h c e =
     let k = number_in a + number_in b in
@@ -46,6 +47,7 @@ not_shown f a b h c e =
     (not_entailed f a b h c e)
 
 -- ---- terms that are written alike
+-- an equation of the goal's variables
 equation_plain : (f : Flat) (a b : FlatTerm) → HasKnown f a → HasKnown f b → IsPlain f (Eq (term_of a) (term_of b) ∷ [])
 equation_plain f a b h k = record {
   vars = λ x m.
@@ -57,6 +59,7 @@ equation_plain f a b h k = record {
   few = omega arith;
 }
 
+-- that terms written alike are equal is shown
 same_shown : (f : Flat) (a b : FlatTerm) → IsCells f → HasKnown f a → HasKnown f b → same_term a b ≡ true → shown (goal_of f) (Eq (term_of a) (term_of b) ∷ []) ≡ true
 same_shown f a b c h k e =
     let equal = (Decides-same_term a b).0 e in
@@ -64,6 +67,7 @@ same_shown f a b c h k e =
     (fits-facts f (Eq (term_of a) (term_of b) ∷ []) c (equation_plain f a b h k))
     ((entailed_law (facts (goal_of f)) (Eq (term_of a) (term_of b) ∷ [])).1 (λ s t. (ap (λ u. value s (term_of u)) equal, tt)))
 
+-- both cases
 shown_as : (f : Flat) (a b : FlatTerm) → IsCells f → is_consistent f ≡ true → HasKnown f a → HasKnown f b
     → (t : Bool) → same_term a b ≡ t → shown (goal_of f) (Eq (term_of a) (term_of b) ∷ []) ≡ t
 shown_as f a b c e h k true s = same_shown f a b c h k s
@@ -80,3 +84,8 @@ shown-nil f c =
     shown_where (fits (facts (goal_of f)) []) (entailed (facts (goal_of f)) [])
     (fits-facts f [] c (record { vars = λ x m. absurd m; elements = refl; few = omega arith }))
     ((entailed_law (facts (goal_of f)) []).1 (λ s t. tt))
+
+-- the equation is open or shown exactly where it may hold
+pub may_equal-equation : (f : Flat) (a b : FlatTerm) → IsCells f → is_consistent f ≡ true → HasKnown f a → HasKnown f b
+    → (is_open (goal_of f) (Eq (term_of a) (term_of b)) || shown (goal_of f) (Eq (term_of a) (term_of b) ∷ [])) ≡ may_equal f a b
+may_equal-equation f a b c e h k = λ i. is_open-equation f a b i || shown-same f a b c e h k i

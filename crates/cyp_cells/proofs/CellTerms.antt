@@ -1,5 +1,5 @@
 -- Terms of goals of cells alone: when two are the same, and what tests say of what they stand for.
-use Rattle.std.proofs.Common.{◌≡◌, ℕ, pos, [], ◌∷◌, List, Option, Some, Bool, true, false, ◌||◌, Decides, map, refl, ap, ◌∙◌}
+use Rattle.std.proofs.Common.{◌≡◌, ℕ, pos, [], ◌∷◌, List, Some, false, ◌||◌, Decides, map, refl, sym, ap, ◌∙◌}
 use Rattle.std.proofs.lemmas.Bool.Decides.{Decides-eqb, Decides-like, same_from_decides}
 use Rattle.std.proofs.lemmas.List.Folds.{list_any-append}
 use Rattle.cyp_term.specs.declared.term.Var.{Var}
@@ -25,31 +25,22 @@ Decides-same_term (Number m) (Number n) = Decides-like _ (λ e. ap Number e) (λ
 Decides-same_term (Named v) (Number n) = Decides-no (λ e. cc)
 Decides-same_term (Number n) (Named v) = Decides-no (λ e. cc)
 
-base_of_named : (v w : ℕ) → term_of (Named v) ≡ term_of (Named w) → Some (int_var v) ≡ Some (int_var w)
-base_of_named v w e = ap (λ (t : Term). t.base) e
-
-named_from_base : (v w : ℕ) → Some (int_var v) ≡ Some (int_var w) → int_var v ≡ int_var w
-named_from_base v w e = cc
-
-offset_of_number : (m n : ℕ) → term_of (Number m) ≡ term_of (Number n) → pos m ≡ pos n
-offset_of_number m n e = ap (λ (t : Term). t.offset) e
-
-number_from_offset : (m n : ℕ) → pos m ≡ pos n → m ≡ n
-number_from_offset m n e = cc
-
 -- a variable is no number
 named_or_number : (v n : ℕ) → term_of (Named v) ≡ term_of (Number n) → ⊥
 named_or_number v n e = let b = ap (λ (t : Term). t.base) e in cc
 
-number_or_named : (v n : ℕ) → term_of (Number n) ≡ term_of (Named v) → ⊥
-number_or_named v n e = let b = ap (λ (t : Term). t.base) e in cc
-
 -- different terms stand for different terms
 pub same_from_term_of : (a b : FlatTerm) → term_of a ≡ term_of b → a ≡ b
-same_from_term_of (Named v) (Named w) e = ap Named (ap (λ (x : Var). x.number) (named_from_base v w (base_of_named v w e)))
-same_from_term_of (Number m) (Number n) e = ap Number (number_from_offset m n (offset_of_number m n e))
+same_from_term_of (Named v) (Named w) e =
+    let b : Some (int_var v) ≡ Some (int_var w) = ap (λ (t : Term). t.base) e in
+    let x : int_var v ≡ int_var w = cc in
+    ap Named (ap (λ (y : Var). y.number) x)
+same_from_term_of (Number m) (Number n) e =
+    let o : pos m ≡ pos n = ap (λ (t : Term). t.offset) e in
+    let q : m ≡ n = cc in
+    ap Number q
 same_from_term_of (Named v) (Number n) e = absurd (named_or_number v n e)
-same_from_term_of (Number n) (Named v) e = absurd (number_or_named v n e)
+same_from_term_of (Number n) (Named v) e = absurd (named_or_number v n (sym e))
 
 -- the general test of terms is that of these terms
 pub term_eq-term_of : (a b : FlatTerm) → term_eq (term_of a) (term_of b) ≡ same_term a b

@@ -1,5 +1,5 @@
 -- How many elements a list has without its repeats.
-use Rattle.std.proofs.Common.{◌≡◌, ◌≤◌, List, [], ◌∷◌, ◌++◌, length, Bool, true, Decides, refl, sym, ap, subst}
+use Rattle.std.proofs.Common.{◌≡◌, ◌≤◌, List, [], ◌∷◌, ◌++◌, length, Bool, Decides, refl, sym, ap}
 use Rattle.std.specs.Cmp.{IsEquivalence}
 use Rattle.std.specs.List.{IsDistinct, list_any}
 use Rattle.std.proofs.lemmas.Bool.{cond_both}
@@ -7,7 +7,7 @@ use Rattle.std.proofs.lemmas.Bool.Decides.{Decides-like, same_from_decides}
 use Rattle.std.proofs.lemmas.Map.Keys.{IsDistinct-push}
 use Rattle.std.proofs.lemmas.Map.Made.{length-le_from_is_member}
 use Rattle.cyp_term.specs.Terms.{with_all_new, with_new, without_repeats}
-use Rattle.cyp_term.proofs.Lists.{Among, some_from, some_out}
+use Rattle.cyp_term.proofs.Lists.{Among, Decides-some}
 use Rattle.cyp_term.proofs.Repeats.{without_repeats_out}
 
 module _ {X : Type 0} (eq : X → X → Bool) (decides : (x y : X) → Decides (eq x y) (x ≡ y)) where
@@ -19,24 +19,27 @@ module _ {X : Type 0} (eq : X → X → Bool) (decides : (x y : X) → Decides (
     congr = λ x y z e. ap (λ w. eq w z) ((decides x y).0 e);
   }
 
-  -- no two elements stay alike
+  -- one more element brings no repeat
   new_distinct : (xs : List X) (y : X) → IsDistinct eq xs → IsDistinct eq (with_new eq xs y)
   new_distinct xs y h =
       cond_both (list_any (eq y) xs) xs (xs ++ y ∷ []) (λ zs. IsDistinct eq zs) (λ e. h) (λ e. IsDistinct-push equivalence xs y h e)
 
+  -- nor do any of the others bring a repeat
   all_new_distinct : (xs ys : List X) → IsDistinct eq xs → IsDistinct eq (with_all_new eq xs ys)
   all_new_distinct xs [] h = h
   all_new_distinct xs (y ∷ ys) h = all_new_distinct (with_new eq xs y) ys (new_distinct xs y h)
 
+  -- nothing is repeated in the empty list
   nil_distinct : IsDistinct eq []
   unfolding IsDistinct
   nil_distinct = tt
 
-  among_from_test : (x : X) (xs : List X) → list_any (eq x) xs ≡ true → Among x xs
-  among_from_test x xs h = let r = some_out (eq x) xs h in subst (λ y. Among y xs) (sym ((decides x r.0).0 r.2)) r.1
+  -- the test finds what stands in the list
+  pub Decides-among : (x : X) (xs : List X) → Decides (list_any (eq x) xs) (Among x xs)
+  Decides-among x xs = Decides-some (λ y. x ≡ y) (eq x) (decides x) xs
 
   -- a list whose elements all stand in another has at most as many without its repeats as the other has
   pub length-without_repeats-le : (xs ys : List X) → ((x : X) → Among x xs → Among x ys) → length (without_repeats eq xs) ≤ length ys
   length-without_repeats-le xs ys h =
       length-le_from_is_member equivalence (without_repeats eq xs) ys (all_new_distinct [] xs nil_distinct)
-      (λ x m. some_from (eq x) x ys (h x (without_repeats_out eq decides x xs (among_from_test x (without_repeats eq xs) m))) ((decides x x).1 refl))
+      (λ x m. (Decides-among x ys).1 (h x (without_repeats_out eq decides x xs ((Decides-among x (without_repeats eq xs)).0 m))))
