@@ -24,8 +24,8 @@ use Rattle.cyp_cells.specs.Cells.{all_numbers, cell_of, cells_numbers, equation_
 use Rattle.cyp_cells.specs.CellMoves.{IsCells, first_at, frame_at, has_existential, is_consistent, is_program_term, may_equal, without_at, write_at}
 use Rattle.cyp_cells.proofs.CellTerms.{is_open-equation, is_program_expr-term_of, has_exist-term_of}
 use Rattle.cyp_cells.proofs.CellFits.{HasKnown}
-use Rattle.cyp_cells.proofs.KnownCells.{IsCellKnown, post_cell_known, pre_cell_known}
-use Rattle.cyp_cells.proofs.CellShown.{shown-same}
+use Rattle.cyp_cells.proofs.CellKnown.{BothKnown, known-post, known-pre}
+use Rattle.cyp_cells.proofs.CellShown.{may_equal-equation}
 
 -- ---- lists
 
@@ -90,20 +90,11 @@ framed_node f i p q e =
     let post : without (map cell_of f.post) 0 ≡ map cell_of (without_at f.post 0) = without-map cell_of f.post 0 in
     (λ k. record (node_of f) { goal = record (goal_of f) { pure_pre = facts k; pre = record { chunks = pre k }; pure_post = pure k; post = record { chunks = post k } } })
 
--- an equation may hold where it has an existential or is shown
-may_hold : (f : Flat) (a b : FlatTerm) → IsCells f → is_consistent f ≡ true → HasKnown f a → HasKnown f b
-    → (is_open (goal_of f) (Eq (term_of a) (term_of b)) || shown (goal_of f) (Eq (term_of a) (term_of b) ∷ [])) ≡ may_equal f a b
-may_hold f a b c e h k = (λ i. is_open-equation f a b i || shown-same f a b c e h k i) ∙ or_assoc (has_existential f a) (has_existential f b) (same_term a b)
-  where
-    or_assoc : (x y z : Bool) → ((x || y) || z) ≡ (x || y || z)
-    or_assoc true y z = refl
-    or_assoc false y z = refl
-
-frame_test : (f : Flat) (p q : FlatCell) → IsCells f → is_consistent f ≡ true → IsCellKnown f p → IsCellKnown f q
+frame_test : (f : Flat) (p q : FlatCell) → IsCells f → is_consistent f ≡ true → BothKnown f p.at p.content → BothKnown f q.at q.content
     → list_all (λ l. is_open (goal_of f) l || shown (goal_of f) (l ∷ [])) (frame_lits (cell_of p) (cell_of q)) ≡ (may_equal f p.at q.at && may_equal f p.content q.content)
 frame_test f p q c e hp hq =
-    let one = may_hold f p.at q.at c e hp.at hq.at in
-    let two = may_hold f p.content q.content c e hp.content hq.content in
+    let one = may_equal-equation f p.at q.at c e hp.first hq.first in
+    let two = may_equal-equation f p.content q.content c e hp.second hq.second in
     (λ i. one i && (two i && true)) ∙ and_true (may_equal f p.at q.at) (may_equal f p.content q.content)
   where
     and_true : (x y : Bool) → (x && (y && true)) ≡ (x && y)
@@ -116,14 +107,14 @@ framed_as : (f : Flat) (i : ℕ) (p q : FlatCell) (b : Bool) → f.equations ≡
 framed_as f i p q false e = refl
 framed_as f i p q true e = ap (λ n. Some (n ∷ [])) (framed_node f i p q e)
 
-framed_pair : (f : Flat) (i : ℕ) (p q : FlatCell) → IsCells f → is_consistent f ≡ true → IsCellKnown f p → IsCellKnown f q
+framed_pair : (f : Flat) (i : ℕ) (p q : FlatCell) → IsCells f → is_consistent f ≡ true → BothKnown f p.at p.content → BothKnown f q.at q.content
     → frame_by (node_of f) i (Some (pair_with p i q)) ≡ option_map (λ g. node_of g ∷ []) (frame_at f i (Some p) (Some q))
 framed_pair f i p q c e hp hq =
     ap (framed (node_of f) i (frame_lits (cell_of p) (cell_of q))) (frame_test f p q c e hp hq)
     ∙ framed_as f i p q (may_equal f p.at q.at && may_equal f p.content q.content) c.clear
 
 -- the focus framed with the cell that stands at the place, if one does
-framed_at : (f : Flat) (i : ℕ) (p : FlatCell) (o : Option FlatCell) → IsCells f → is_consistent f ≡ true → IsCellKnown f p → ((q : FlatCell) → o ≡ Some q → IsCellKnown f q)
+framed_at : (f : Flat) (i : ℕ) (p : FlatCell) (o : Option FlatCell) → IsCells f → is_consistent f ≡ true → BothKnown f p.at p.content → ((q : FlatCell) → o ≡ Some q → BothKnown f q.at q.content)
     → frame_by (node_of f) i (option_map (pair_with p i) o) ≡ option_map (λ g. node_of g ∷ []) (frame_at f i (Some p) o)
 framed_at f i p None c e hp hq = refl
 framed_at f i p (Some q) c e hp hq = framed_pair f i p q c e hp (hq q refl)
@@ -135,8 +126,8 @@ pairs_by cs o = elim o [
   | Some f ↦ map (λ (p : ℕ × Chunk). record { pre = p.0; lits = frame_lits f p.1 }) (filter (λ (p : ℕ × Chunk). alike f p.1) (with_places 0 cs))
 ]
 
-focused : (f : Flat) (i : ℕ) (o : Option FlatCell) → IsCells f → is_consistent f ≡ true → ((p : FlatCell) → o ≡ Some p → IsCellKnown f p)
-    → ((q : FlatCell) → slice_get f.pre i ≡ Some q → IsCellKnown f q)
+focused : (f : Flat) (i : ℕ) (o : Option FlatCell) → IsCells f → is_consistent f ≡ true → ((p : FlatCell) → o ≡ Some p → BothKnown f p.at p.content)
+    → ((q : FlatCell) → slice_get f.pre i ≡ Some q → BothKnown f q.at q.content)
     → frame_by (node_of f) i (pair_at i (pairs_by (map cell_of f.pre) (option_map cell_of o))) ≡ option_map (λ g. node_of g ∷ []) (frame_at f i o (slice_get f.pre i))
 focused f i None c e hp hq = refl
 focused f i (Some p) c e hp hq =
@@ -147,4 +138,4 @@ pub raw_frame-node_of : (f : Flat) (i : ℕ) → IsCells f → is_consistent f �
     → raw_frame (node_of f) i ≡ option_map (λ g. node_of g ∷ []) (frame_at f i (slice_get f.post 0) (slice_get f.pre i))
 raw_frame-node_of f i c e =
     ap (λ o. frame_by (node_of f) i (pair_at i (pairs_by (map cell_of f.pre) o))) (slice_get-map cell_of f.post 0)
-    ∙ focused f i (slice_get f.post 0) c e (post_cell_known f 0) (pre_cell_known f i)
+    ∙ focused f i (slice_get f.post 0) c e (known-post f 0) (known-pre f i)

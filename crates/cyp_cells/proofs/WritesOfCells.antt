@@ -19,7 +19,7 @@ use Rattle.cyp_cells.specs.CellMoves.{IsCells, first_at, has_existential, is_con
 use Rattle.cyp_cells.proofs.CellTerms.{has_exist-term_of, is_program_expr-term_of}
 use Rattle.cyp_cells.proofs.CellFits.{HasKnown}
 use Rattle.cyp_cells.proofs.CellShown.{shown-same}
-use Rattle.cyp_cells.proofs.KnownCells.{IsCellKnown, post_cell_known, pre_cell_known}
+use Rattle.cyp_cells.proofs.CellKnown.{BothKnown, known-post, known-pre}
 
 pub slice_set-map : {A B : Type 0} (g : A → B) (xs : List A) (i : ℕ) (x : A) → slice_set (map g xs) i (g x) ≡ map g (slice_set xs i x)
 slice_set-map g [] i x = refl
@@ -70,14 +70,14 @@ written_node f i p q =
 abbrev pub write_here : Flat → ℕ → FlatCell → FlatCell → Option Flat
 write_here f i p q = cond (is_place i (first_at p.at 0 f.pre)) (write_at f i p q) None
 
-written_cells : (f : Flat) (i : ℕ) (p q : FlatCell) → IsCells f → is_consistent f ≡ true → IsCellKnown f p → IsCellKnown f q
+written_cells : (f : Flat) (i : ℕ) (p q : FlatCell) → IsCells f → is_consistent f ≡ true → BothKnown f p.at p.content → BothKnown f q.at q.content
     → raw_write (node_of f) i (Some (cell_of p)) (Some (cell_of q)) ≡ option_map (λ g. node_of g ∷ []) (write_here f i p q)
 written_cells f i p q c e hp hq =
     let one = has_exist-term_of f p.at in
     let two = is_program_expr-term_of f q.at in
     let three = is_program_expr-term_of f p.content in
-    let place = first_place-first_at f p.at 0 f.pre (λ j d h. shown-same f p.at d.at c e hp.at (pre_cell_known f j d h).at) in
-    let same = shown-same f p.content q.content c e hp.content hq.content in
+    let place = first_place-first_at f p.at 0 f.pre (λ j d h. shown-same f p.at d.at c e hp.first (known-pre f j d h).first) in
+    let same = shown-same f p.content q.content c e hp.second hq.second in
     (λ k. written_by (not (one k) && two k && three k) (is_place i (place k)) (same k) (written_node f i p q k))
     ∙ written_as (not (has_existential f p.at) && is_program_term f q.at && is_program_term f p.content) (is_place i (first_at p.at 0 f.pre)) (same_term p.content q.content) (written_flat f i p q)
 
@@ -85,7 +85,7 @@ abbrev pub write_by : Flat → ℕ → Option FlatCell → Option FlatCell → O
 write_by f i (Some p) (Some q) = write_here f i p q
 write_by f i _ _ = None
 
-written_options : (f : Flat) (i : ℕ) (o r : Option FlatCell) → IsCells f → is_consistent f ≡ true → ((p : FlatCell) → o ≡ Some p → IsCellKnown f p) → ((q : FlatCell) → r ≡ Some q → IsCellKnown f q)
+written_options : (f : Flat) (i : ℕ) (o r : Option FlatCell) → IsCells f → is_consistent f ≡ true → ((p : FlatCell) → o ≡ Some p → BothKnown f p.at p.content) → ((q : FlatCell) → r ≡ Some q → BothKnown f q.at q.content)
     → raw_write (node_of f) i (option_map cell_of o) (option_map cell_of r) ≡ option_map (λ g. node_of g ∷ []) (write_by f i o r)
 written_options f i None None c e hp hq = refl
 written_options f i None (Some q) c e hp hq = refl
@@ -97,4 +97,4 @@ pub raws_write-node_of : (f : Flat) (i : ℕ) → IsCells f → is_consistent f 
     → raws (node_of f) (ByWrite i) ≡ option_map (λ g. node_of g ∷ []) (write_by f i (slice_get f.post 0) (slice_get f.pre i))
 raws_write-node_of f i c e =
     (λ k. raw_write (node_of f) i (slice_get-map cell_of f.post 0 k) (slice_get-map cell_of f.pre i k))
-    ∙ written_options f i (slice_get f.post 0) (slice_get f.pre i) c e (post_cell_known f 0) (pre_cell_known f i)
+    ∙ written_options f i (slice_get f.post 0) (slice_get f.pre i) c e (known-post f 0) (known-pre f i)
