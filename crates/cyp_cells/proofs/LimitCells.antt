@@ -19,7 +19,7 @@ goal_elements-goal_of f =
       flat_map-map_none positive_of lit_elements (λ v. refl) f.positive,
       flat_map-map_none cell_of chunk_elements (λ c. refl) f.pre,
       flat_map-map_none equation_of lit_elements (λ e. refl) f.equations,
-      flat_map-map_none cell_of chunk_elements (λ c. refl) f.post
+      flat_map-map_none cell_of chunk_elements (λ c. refl) f.post,
     )
     refl
 
@@ -30,7 +30,7 @@ node_units-node_of f =
       sum_by-threes cell_of chunk_units (λ c. refl) f.pre,
       sum_by-threes cell_of chunk_units (λ c. refl) f.post,
       sum_by-threes positive_of lit_units (λ v. refl) f.positive,
-      sum_by-threes equation_of lit_units (λ e. refl) f.equations
+      sum_by-threes equation_of lit_units (λ e. refl) f.equations,
     )
     (add-zero (flat_units f))
 
@@ -59,7 +59,7 @@ three_trues false b = refl
 pub is_within_limits-node_of : (f : Flat) → is_within_limits (node_of f) ≡ is_flat_within f
 is_within_limits-node_of f =
     (λ i. by_counts (length-map f.pre cell_of i) (length-map f.post cell_of i) (length-map f.positive positive_of i) (length-map f.equations equation_of i)
-      (length-map f.program int_var i) (int_vars_count f i) (set_vars_count f i) (elements_count f i) (node_units-node_of f i))
+    (length-map f.program int_var i) (int_vars_count f i) (set_vars_count f i) (elements_count f i) (node_units-node_of f i))
     ∙ three_trues (nat_le (length f.pre) 16 && nat_le (length f.post) 16 && nat_le (length f.positive) 40 && nat_le (length f.equations) 40
-      && nat_le (length f.program) 12 && nat_le (length (once (all_numbers f))) 32)
+    && nat_le (length f.program) 12 && nat_le (length (once (all_numbers f))) 32)
     (nat_le (flat_units f) 240)

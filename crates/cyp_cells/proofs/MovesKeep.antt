@@ -2,7 +2,6 @@
 use Rattle.std.proofs.Common.{◌≡◌, ℕ, zero, suc, Bool, true, false, List, [], ◌∷◌, ◌++◌, length, Option, Some, None, option_to_list, refl, subst}
 use Rattle.std.proofs.lemmas.List.Elements.{All-append, All-cons, All-nil}
 use Rattle.std.proofs.lemmas.Option.{none-some, same_Some}
-use Rattle.std.specs.Bool.{IsTrue}
 use Rattle.std.specs.List.{All, cons_option, filter_map, slice_get}
 use Rattle.cyp_pred.specs.Unfold.{count_from}
 use Rattle.cyp_moves.specs.Moves.{cost_of}
@@ -13,25 +12,15 @@ use Rattle.cyp_cells.specs.declared.flat.Flat.{Flat}
 use Rattle.cyp_cells.specs.declared.flat.FlatCell.{FlatCell}
 use Rattle.cyp_cells.specs.declared.flat.FlatEquation.{FlatEquation}
 use Rattle.cyp_cells.specs.CellNormal.{FlatRenaming, normal_flat}
-use Rattle.cyp_cells.specs.CellMoves.{IsCells, first_at, flat_moves, flat_row, frame_at, frame_row, frame_rows, heap_moves, is_consistent, is_done, last_row, read_at, read_row, read_rows_from, write_at, write_focus, write_rows, write_to}
+use Rattle.cyp_cells.specs.CellMoves.{first_at, flat_moves, flat_row, frame_at, frame_row, frame_rows, heap_moves, is_consistent, is_done, last_row, read_at, read_row, read_rows_from, write_at, write_focus, write_rows, write_to}
 use Rattle.cyp_cells.proofs.FrameKeeps.{frame_raw, write_raw}
-use Rattle.cyp_cells.proofs.NormalKeeps.{normal_keeps}
+use Rattle.cyp_cells.proofs.Kept.{IsKept, normal_kept}
 use Rattle.cyp_cells.proofs.ReadKeeps.{read_raw}
-use Rattle.cyp_cells.proofs.Used.{are_used, normal_uses}
 use Rattle.cyp_cells.proofs.WellFormed.{IsRaw}
-
--- what a goal of a search keeps: it is one of cells alone, and each existential stands in the postcondition
-pub record IsKept (f : Flat) : Type 0 where
-  pub cells : IsCells f
-  pub used : IsTrue (are_used f)
 
 -- the premises of a move are kept
 abbrev pub PremisesKept : AltOf Rule Flat → Type 0
 PremisesKept a = All IsKept a.premises
-
--- the normal form of a raw goal is kept where it has no equation
-pub normal_kept : (f : Flat) (m : FlatRenaming) → IsRaw f → normal_flat f ≡ Some m → m.flat.equations ≡ [] → IsKept m.flat
-normal_kept f m r e none = record { cells = normal_keeps f m r e none; used = normal_uses f m e none }
 
 -- ---- one row
 

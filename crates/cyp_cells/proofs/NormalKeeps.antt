@@ -1,5 +1,5 @@
--- The normal form of a raw goal without equations is a goal of cells alone.
-use Rattle.std.proofs.Common.{◌≡◌, ℕ, true, List, [], ◌++◌, map, length, not, Some, refl, sym, ap, ◌∙◌, subst, ⊎_elim}
+-- The normal form of a raw goal is well formed.
+use Rattle.std.proofs.Common.{◌≡◌, ℕ, true, List, ◌++◌, map, length, not, Some, refl, sym, ap, ◌∙◌, subst, ⊎_elim}
 use Rattle.std.proofs.lemmas.Bool.{or_cases}
 use Rattle.std.proofs.lemmas.List.Folds.{list_all-map}
 use Rattle.std.proofs.lemmas.Option.{cond_some}
@@ -8,7 +8,7 @@ use Rattle.cyp_cells.specs.declared.flat.FlatTerm.{FlatTerm}
 use Rattle.cyp_cells.specs.declared.flat.FlatTerm.TheVariants.{Named, Number}
 use Rattle.cyp_cells.specs.Cells.{all_numbers, among, cells_numbers, equations_numbers, once}
 use Rattle.cyp_cells.specs.CellNormal.{FlatRenaming, address_numbers, is_flat_within, live_numbers, normal_flat, number_flat, only, place_in, prune_flat, rename_flat, rename_term, solve_flat, tidy_flat}
-use Rattle.cyp_cells.specs.CellMoves.{IsCells, is_named, is_small}
+use Rattle.cyp_cells.specs.CellMoves.{is_named, is_small}
 use Rattle.cyp_cells.proofs.Members.{AreAmong, all_among, all_from_among, among_filter, among_left, among_right, are_among_append}
 use Rattle.cyp_cells.proofs.CellLists.{named_over, small_over}
 use Rattle.cyp_cells.proofs.Once.{among-once, among-with_all_new}
@@ -142,16 +142,3 @@ normal_well_formed f m r e =
     let is : IsSolved f solved = solving_keeps (length f.equations) f r in
     subst IsWellFormed (normal_is f m e).1
     (number_well_formed (prune_flat (tidy_flat solved)) (prune_well_formed (tidy_flat solved) (tidy_well_formed solved is.raw.well_formed)))
-
--- without equations it is a goal of cells alone
-pub normal_keeps : (f : Flat) (m : FlatRenaming) → IsRaw f → normal_flat f ≡ Some m → m.flat.equations ≡ [] → IsCells m.flat
-normal_keeps f m r e none =
-    let w : IsWellFormed m.flat = normal_well_formed f m r e in
-    record {
-      named = w.named;
-      small_pre = w.small_pre;
-      small_post = w.small_post;
-      apart = w.apart;
-      clear = none;
-      within = subst (λ g. is_flat_within g ≡ true) (normal_is f m e).1 (normal_is f m e).0;
-    }

@@ -53,8 +53,8 @@ read_content-named f v = refl
 
 pub raw_read-cell_of : (f : Flat) (i : ℕ) (c : FlatCell)
     → raw_read (node_of f) i (Some (cell_of c))
-      ≡ where_true (is_program_expr (node_of f).goal (term_of c.at) && not (is_program_expr (node_of f).goal (term_of c.content))
-        && occurs_elsewhere (node_of f).goal (term_of c.content)) (Some (read_node f i c ∷ []))
+    ≡ where_true (is_program_expr (node_of f).goal (term_of c.at) && not (is_program_expr (node_of f).goal (term_of c.content))
+    && occurs_elsewhere (node_of f).goal (term_of c.content)) (Some (read_node f i c ∷ []))
 raw_read-cell_of f i c = refl
 
 -- ---- the variable that is read
@@ -64,24 +64,24 @@ pub among-read : (f : Flat) (i : ℕ) (c : FlatCell) (v : ℕ) → slice_get f.p
 among-read f i c v at content =
     among-flat_map cell_numbers v f.pre i c at
     (among_right v (term_numbers c.at) (term_numbers c.content)
-      (ap (λ t. among v (term_numbers t)) content ∙ or_left (v == v) false (eq-eqb v v refl)))
+    (ap (λ t. among v (term_numbers t)) content ∙ or_left (v == v) false (eq-eqb v v refl)))
 
 -- it isn't the new one
 pub read_apart : (f : Flat) (v : ℕ) → IsTrue (among v (cells_numbers f.pre)) → (v == new_number f) ≡ false
 read_apart f v h =
     new_number_apart f v
     (among_left v (f.program ++ cells_numbers f.pre ++ cells_numbers f.post ++ f.positive) (equations_numbers f.equations)
-      (among_left v (f.program ++ cells_numbers f.pre ++ cells_numbers f.post) f.positive
-        (among_left v (f.program ++ cells_numbers f.pre) (cells_numbers f.post) (among_right v f.program (cells_numbers f.pre) h))))
+    (among_left v (f.program ++ cells_numbers f.pre ++ cells_numbers f.post) f.positive
+    (among_left v (f.program ++ cells_numbers f.pre) (cells_numbers f.post) (among_right v f.program (cells_numbers f.pre) h))))
 
 -- it isn't an existential
 pub read_universal : (f : Flat) (v : ℕ) → IsClear f → IsTrue (among v (cells_numbers f.pre)) → among v f.exist ≡ false
 read_universal f v h there =
     false_from_ne_true (among v f.exist)
     (λ e. both_ways (among v (f.program ++ f.positive ++ cells_numbers f.pre))
-      (not-true (among v (f.program ++ f.positive ++ cells_numbers f.pre))
-        (list_all_at (λ w. not (among w (f.program ++ f.positive ++ cells_numbers f.pre))) v f.exist h.apart e))
-      (among_right v (f.program ++ f.positive) (cells_numbers f.pre) there))
+    (not-true (among v (f.program ++ f.positive ++ cells_numbers f.pre))
+    (list_all_at (λ w. not (among w (f.program ++ f.positive ++ cells_numbers f.pre))) v f.exist h.apart e))
+    (among_right v (f.program ++ f.positive) (cells_numbers f.pre) there))
 
 -- ---- the node in which it is read
 
@@ -119,7 +119,7 @@ small-read_raw f i c y h at =
     let small : IsTrue (is_small_cell c) = list_all-slice_get is_small_cell f.pre i c at h.small_pre in
     record {
       pre = list_all-set is_small_cell f.pre i (record { at = c.at; content = Named y })
-        (and_from (is_small c.at) true (and_parts (is_small c.at) (is_small c.content) small).0 refl) h.small_pre;
+          (and_from (is_small c.at) true (and_parts (is_small c.at) (is_small c.content) small).0 refl) h.small_pre;
       post = h.small_post;
       equations = (small_from_clear f h).equations;
     }

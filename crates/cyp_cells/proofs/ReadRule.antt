@@ -30,7 +30,7 @@ occurs_elsewhere-goal_of f v clear =
     let stand : List ℕ = cells_numbers f.pre ++ cells_numbers f.post ++ f.positive in
     ap (λ vs. nat_le 2 (count_by (var_eq (int_var v)) vs))
     (joined (cells_numbers f.pre) (cells_numbers f.post) f.positive (equations_numbers f.equations) (chunks_vars-cell_of f.pre) (chunks_vars-cell_of f.post)
-      (lits_vars-positive_of f.positive) (lits_vars-equation_of f.equations))
+    (lits_vars-positive_of f.positive) (lits_vars-equation_of f.equations))
     ∙ ap (nat_le 2) (count_by-map int_var (λ w. v == w) (var_eq (int_var v)) (λ w. refl) (stand ++ equations_numbers f.equations))
     ∙ ap (λ es. nat_le 2 (count_by (λ w. v == w) (stand ++ equations_numbers es))) clear
     ∙ ap (λ vs. nat_le 2 (count_by (λ w. v == w) vs)) (append-nil stand)

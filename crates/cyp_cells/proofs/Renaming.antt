@@ -38,6 +38,16 @@ place_from-lt k (u ∷ us) v m =
     omega arith)
     (cases_Bool (u == v))
 
+-- a place is at most the end of the list
+pub place_from-le : (k : ℕ) (vs : List ℕ) (v : ℕ) → place_from k vs v ≤ k + length vs
+place_from-le k [] v = omega arith
+place_from-le k (u ∷ us) v =
+    ⊎_elim (λ e. let here : place_from k (u ∷ us) v ≡ k = place_here k u us v e in omega arith)
+    (λ e. let next : place_from k (u ∷ us) v ≡ place_from (suc k) us v = place_next k u us v e in
+    let most : place_from (suc k) us v ≤ suc k + length us = place_from-le (suc k) us v in
+    omega arith)
+    (cases_Bool (u == v))
+
 -- a number of the list whose place is that of another is that other
 pub place_from_same : (k : ℕ) (vs : List ℕ) (v w : ℕ) → among v vs ≡ true → place_from k vs v ≡ place_from k vs w → v ≡ w
 place_from_same k [] v w m e = absurd (false≢true m)
@@ -63,6 +73,10 @@ renamed_once vs v w m e = place_from_same 0 vs v w m e
 -- the place of a number of the list is below the list's length
 pub place_in-lt : (vs : List ℕ) (v : ℕ) → among v vs ≡ true → place_in vs v < length vs
 place_in-lt vs v m = let below : place_from 0 vs v < 0 + length vs = place_from-lt 0 vs v m in omega arith
+
+-- a place is at most the list's length
+pub place_in-le : (vs : List ℕ) (v : ℕ) → place_in vs v ≤ length vs
+place_in-le vs v = let most : place_from 0 vs v ≤ 0 + length vs = place_from-le 0 vs v in omega arith
 
 -- a renaming that tells a number from each of some others keeps whether it is among them
 pub among_map_apart : (g : ℕ → ℕ) (ws : List ℕ) (v : ℕ) → ((w : ℕ) → among w ws ≡ true → g v ≡ g w → v ≡ w) → among (g v) (map g ws) ≡ among v ws
