@@ -1,5 +1,5 @@
 -- Goals of cells alone without equations, as a search keeps them.
-use Rattle.std.proofs.Common.{◌≡◌, ◌∙◌, ℕ, [], ◌∷◌, ◌++◌, ◌==◌, List, Bool, true, false, not, ◌&&◌, IsTrue, refl, sym, ap, ⊎_elim}
+use Rattle.std.proofs.Common.{◌≡◌, ◌∙◌, ℕ, [], ◌∷◌, ◌++◌, ◌==◌, List, Bool, not, IsTrue, refl, sym, ap, ⊎_elim}
 use Rattle.std.specs.List.{list_all}
 use Rattle.std.proofs.lemmas.Bool.{and_from, and_parts, both_ways, false_from_ne_true, not-true, not_from_false, or_cases}
 use Rattle.cyp_cells.proofs.Among.{among_left, among_right, list_any-append}
@@ -39,7 +39,7 @@ among-address_numbers v (c ∷ cs) h =
     (λ e. among_left v (cell_numbers c) (cells_numbers cs) (among_left v (term_numbers c.at) (term_numbers c.content) e))
     (λ e. among_right v (cell_numbers c) (cells_numbers cs) (among-address_numbers v cs e))
     (or_cases (among v (term_numbers c.at)) (among v (address_numbers cs))
-      (sym (list_any-append (λ w. v == w) (term_numbers c.at) (address_numbers cs)) ∙ h))
+    (sym (list_any-append (λ w. v == w) (term_numbers c.at) (address_numbers cs)) ∙ h))
 
 -- a longer list
 wider : (v : ℕ) (program positive : List ℕ) (cs : List FlatCell)
@@ -55,8 +55,8 @@ still_apart : (f : Flat) (v : ℕ) → IsTrue (not (among v (f.program ++ f.posi
 still_apart f v h =
     not_from_false (among v (f.positive ++ address_numbers f.pre))
     (false_from_ne_true (among v (f.positive ++ address_numbers f.pre))
-      (λ e. both_ways (among v (f.program ++ f.positive ++ cells_numbers f.pre))
-        (not-true (among v (f.program ++ f.positive ++ cells_numbers f.pre)) h) (wider v f.program f.positive f.pre e)))
+    (λ e. both_ways (among v (f.program ++ f.positive ++ cells_numbers f.pre))
+    (not-true (among v (f.program ++ f.positive ++ cells_numbers f.pre)) h) (wider v f.program f.positive f.pre e)))
 
 -- equations may have come since
 pub apart_from_clear : (f : Flat) → IsTrue (list_all (λ v. not (among v (f.program ++ f.positive ++ cells_numbers f.pre))) f.exist)

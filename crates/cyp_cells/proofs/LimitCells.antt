@@ -1,5 +1,5 @@
 -- The limits of a node, at goals of cells alone.
-use Rattle.std.proofs.Common.{◌≡◌, ◌∙◌, ℕ, [], ◌++◌, ◌+◌, List, Bool, true, false, not, ◌&&◌, filter, flat_map, length, map, nat_le, refl, ap, add-zero}
+use Rattle.std.proofs.Common.{◌≡◌, ◌∙◌, ℕ, [], Bool, true, false, not, ◌&&◌, filter, length, nat_le, refl, ap, add-zero}
 use Rattle.std.proofs.lemmas.List.{length-map}
 use Rattle.cyp_cells.proofs.Counts.{sum_by-threes}
 use Rattle.cyp_cells.proofs.Embedding.{no_set_vars, node_vars-node_of}
@@ -10,7 +10,6 @@ use Rattle.cyp_cells.specs.declared.flat.Flat.{Flat}
 use Rattle.cyp_heap.specs.Goals.{node_vars}
 use Rattle.cyp_heap.specs.Limits.{chunk_elements, chunk_units, goal_elements, is_within_limits, lit_units, node_units}
 use Rattle.cyp_term.specs.Terms.{is_set_var, lit_elements, term_eq, without_repeats}
-use Rattle.cyp_term.specs.declared.term.Var.{Var}
 
 -- no literal or cell has an element of a set
 goal_elements-goal_of : (f : Flat) → goal_elements (goal_of f) ≡ []
@@ -19,7 +18,7 @@ goal_elements-goal_of f =
       flat_map-map_none positive_of lit_elements (λ v. refl) f.positive,
       flat_map-map_none cell_of chunk_elements (λ c. refl) f.pre,
       flat_map-map_none equation_of lit_elements (λ e. refl) f.equations,
-      flat_map-map_none cell_of chunk_elements (λ c. refl) f.post
+      flat_map-map_none cell_of chunk_elements (λ c. refl) f.post,
     )
     refl
 
@@ -30,7 +29,7 @@ node_units-node_of f =
       sum_by-threes cell_of chunk_units (λ c. refl) f.pre,
       sum_by-threes cell_of chunk_units (λ c. refl) f.post,
       sum_by-threes positive_of lit_units (λ v. refl) f.positive,
-      sum_by-threes equation_of lit_units (λ e. refl) f.equations
+      sum_by-threes equation_of lit_units (λ e. refl) f.equations,
     )
     (add-zero (flat_units f))
 
@@ -59,7 +58,7 @@ three_trues false b = refl
 pub is_within_limits-node_of : (f : Flat) → is_within_limits (node_of f) ≡ is_flat_within f
 is_within_limits-node_of f =
     (λ i. by_counts (length-map f.pre cell_of i) (length-map f.post cell_of i) (length-map f.positive positive_of i) (length-map f.equations equation_of i)
-      (length-map f.program int_var i) (int_vars_count f i) (set_vars_count f i) (elements_count f i) (node_units-node_of f i))
+    (length-map f.program int_var i) (int_vars_count f i) (set_vars_count f i) (elements_count f i) (node_units-node_of f i))
     ∙ three_trues (nat_le (length f.pre) 16 && nat_le (length f.post) 16 && nat_le (length f.positive) 40 && nat_le (length f.equations) 40
-      && nat_le (length f.program) 12 && nat_le (length (once (all_numbers f))) 32)
+    && nat_le (length f.program) 12 && nat_le (length (once (all_numbers f))) 32)
     (nat_le (flat_units f) 240)

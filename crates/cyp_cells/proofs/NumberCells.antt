@@ -1,5 +1,5 @@
 -- New numbers, at goals of cells alone.
-use Rattle.std.proofs.Common.{◌≡◌, ◌∙◌, ℕ, [], ◌∷◌, ◌++◌, ◌==◌, List, Bool, true, false, cond, not, ◌&&◌, ◌||◌, None, Some, Option, IsTrue, map, pos, refl, sym, ap, suc}
+use Rattle.std.proofs.Common.{◌≡◌, ◌∙◌, ℕ, [], ◌∷◌, ◌++◌, ◌==◌, List, Bool, true, false, cond, not, Some, Option, IsTrue, map, pos, refl, sym, ap, suc}
 use Rattle.std.specs.List.{list_all}
 use Rattle.std.proofs.lemmas.Bool.{and_parts, eqb-false, eqb-true, false≢true, ne_eqb}
 use Rattle.cyp_cells.proofs.Among.{all_among_once, list_all-flat_map, list_all_parts}
@@ -67,14 +67,14 @@ pub apply_chunk-numbering : (ws : List ℕ) (c : FlatCell) → IsTrue (list_all 
     → apply_chunk (numbering (map int_var ws)) (cell_of c) ≡ cell_of (rename_cell ws c)
 apply_chunk-numbering ws c h =
     let parts : IsTrue (list_all (λ v. among v ws) (term_numbers c.at)) × IsTrue (list_all (λ v. among v ws) (term_numbers c.content))
-      = list_all_parts (λ v. among v ws) (term_numbers c.at) (term_numbers c.content) h in
+    = list_all_parts (λ v. among v ws) (term_numbers c.at) (term_numbers c.content) h in
     rw (apply_term-numbering ws c.at parts.0, apply_term-numbering ws c.content parts.1) refl
 
 pub apply_lit-numbering : (ws : List ℕ) (e : FlatEquation) → IsTrue (list_all (λ v. among v ws) (equation_numbers e))
     → apply_lit (numbering (map int_var ws)) (equation_of e) ≡ equation_of (rename_equation ws e)
 apply_lit-numbering ws e h =
     let parts : IsTrue (list_all (λ v. among v ws) (term_numbers e.left)) × IsTrue (list_all (λ v. among v ws) (term_numbers e.right))
-      = list_all_parts (λ v. among v ws) (term_numbers e.left) (term_numbers e.right) h in
+    = list_all_parts (λ v. among v ws) (term_numbers e.left) (term_numbers e.right) h in
     rw (apply_term-numbering ws e.left parts.0, apply_term-numbering ws e.right parts.1) refl
 
 apply_positive-numbering : (ws : List ℕ) (v : ℕ) → IsTrue (among v ws) → apply_lit (numbering (map int_var ws)) (positive_of v) ≡ positive_of (place_in ws v)
@@ -106,11 +106,11 @@ renumber_by-node_of : (ws : List ℕ) (f : Flat) → IsTrue (list_all (λ v. amo
 renumber_by-node_of ws f h =
     let p : ℕ → Bool = λ v. among v ws in
     let equations : IsTrue (list_all p (f.program ++ cells_numbers f.pre ++ cells_numbers f.post ++ f.positive)) × IsTrue (list_all p (equations_numbers f.equations))
-      = list_all_parts p (f.program ++ cells_numbers f.pre ++ cells_numbers f.post ++ f.positive) (equations_numbers f.equations) h in
+    = list_all_parts p (f.program ++ cells_numbers f.pre ++ cells_numbers f.post ++ f.positive) (equations_numbers f.equations) h in
     let positive : IsTrue (list_all p (f.program ++ cells_numbers f.pre ++ cells_numbers f.post)) × IsTrue (list_all p f.positive)
-      = list_all_parts p (f.program ++ cells_numbers f.pre ++ cells_numbers f.post) f.positive equations.0 in
+    = list_all_parts p (f.program ++ cells_numbers f.pre ++ cells_numbers f.post) f.positive equations.0 in
     let post : IsTrue (list_all p (f.program ++ cells_numbers f.pre)) × IsTrue (list_all p (cells_numbers f.post))
-      = list_all_parts p (f.program ++ cells_numbers f.pre) (cells_numbers f.post) positive.0 in
+    = list_all_parts p (f.program ++ cells_numbers f.pre) (cells_numbers f.post) positive.0 in
     let pre : IsTrue (list_all p f.program) × IsTrue (list_all p (cells_numbers f.pre)) = list_all_parts p f.program (cells_numbers f.pre) post.0 in
     λ i. record {
       preds = record { list = [] };

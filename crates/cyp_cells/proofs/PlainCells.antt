@@ -1,9 +1,9 @@
 -- What the normal form asks of a goal of cells alone, and that a solved equation keeps it.
-use Rattle.std.proofs.Common.{◌≡◌, ◌∙◌, ℕ, [], ◌∷◌, ◌++◌, ◌==◌, List, Bool, true, false, cond, not, ◌&&◌, ◌||◌, Option, None, Some, IsTrue, flat_map, map, pos, refl, sym, ap, subst, inl, inr, ◌⊎◌, ⊎_elim}
+use Rattle.std.proofs.Common.{◌≡◌, ◌∙◌, ℕ, [], ◌∷◌, ◌++◌, ◌==◌, List, Bool, true, false, not, ◌&&◌, ◌||◌, Option, None, Some, IsTrue, flat_map, map, pos, refl, sym, ap, subst, inl, inr, ◌⊎◌, ⊎_elim}
 use Rattle.std.specs.List.{list_all}
 use Rattle.std.proofs.lemmas.Bool.{and_from, and_parts, not-true, or_parts}
 use Rattle.std.proofs.lemmas.Option.{cond_some, none-some, same_Some}
-use Rattle.cyp_cells.proofs.Among.{list_all_at, list_all-flat_map, list_any-append}
+use Rattle.cyp_cells.proofs.Among.{list_all_at, list_any-append}
 use Rattle.cyp_cells.proofs.MapLaws.{list_all-map}
 use Rattle.cyp_cells.proofs.PutCells.{apply_term-term_of, put_for}
 use Rattle.cyp_cells.proofs.SmallCells.{IsSmall, is_small_equation, small-put_flat}
@@ -92,7 +92,7 @@ pub addresses_kept : (v : ℕ) (t : FlatTerm) (cs : List FlatCell) → among v (
 addresses_kept v t [] h = refl
 addresses_kept v t (c ∷ cs) h =
     let parts : (among v (term_numbers c.at) ≡ false) × (among v (address_numbers cs) ≡ false)
-      = or_parts (among v (term_numbers c.at)) (among v (address_numbers cs)) (sym (list_any-append (λ w. v == w) (term_numbers c.at) (address_numbers cs)) ∙ h) in
+    = or_parts (among v (term_numbers c.at)) (among v (address_numbers cs)) (sym (list_any-append (λ w. v == w) (term_numbers c.at) (address_numbers cs)) ∙ h) in
     λ i. put_term_kept v t c.at parts.0 i ∷ addresses_kept v t cs parts.1 i
 
 -- what is positive stays
@@ -125,7 +125,7 @@ pub exist_apart : (f : Flat) (v : ℕ) → IsPlain f → IsTrue (among v f.exist
 exist_apart f v h there =
     or_parts (among v f.positive) (among v (address_numbers f.pre))
     (sym (list_any-append (λ w. v == w) f.positive (address_numbers f.pre))
-      ∙ not-true (among v (f.positive ++ address_numbers f.pre)) (list_all_at (λ w. not (among w (f.positive ++ address_numbers f.pre))) v f.exist h.apart there))
+    ∙ not-true (among v (f.positive ++ address_numbers f.pre)) (list_all_at (λ w. not (among w (f.positive ++ address_numbers f.pre))) v f.exist h.apart there))
 
 pub plain-solve_picked : (f : Flat) (p : Picked) → IsPlain f → IsPicked f.exist p → IsPlain (solve_picked f p)
 plain-solve_picked f p h k =

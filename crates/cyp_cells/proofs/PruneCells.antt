@@ -8,7 +8,6 @@ use Rattle.cyp_cells.specs.declared.flat.Flat.{Flat}
 use Rattle.cyp_goal.specs.Pruning.{is_kept, live_vars, prune, spread, spread_times}
 use Rattle.cyp_heap.specs.Chunks.{chunks_vars}
 use Rattle.cyp_term.specs.Terms.{lits_vars, var_eq, var_in, with_new, without_repeats}
-use Rattle.cyp_term.specs.declared.lit.Lit.{Lit}
 use Rattle.cyp_term.specs.declared.term.Var.{Var}
 
 -- ---- a literal with one variable makes no other variable live
@@ -32,9 +31,9 @@ live_vars-node_of f =
     let start : List Var = map int_var f.program ++ chunks_vars (map cell_of f.pre) ++ chunks_vars (map cell_of f.post) ++ lits_vars (map equation_of f.equations) in
     spread_times-positive_of (length (map positive_of f.positive)) f.positive (without_repeats var_eq (start ++ []))
     ∙ ap (without_repeats var_eq) (
-      append-nil start
-      ∙ joined f.program (cells_numbers f.pre) (cells_numbers f.post) (equations_numbers f.equations) refl (chunks_vars-cell_of f.pre) (chunks_vars-cell_of f.post)
-      (lits_vars-equation_of f.equations)
+    append-nil start
+    ∙ joined f.program (cells_numbers f.pre) (cells_numbers f.post) (equations_numbers f.equations) refl (chunks_vars-cell_of f.pre) (chunks_vars-cell_of f.post)
+    (lits_vars-equation_of f.equations)
     )
     ∙ without_repeats-map int_var (λ v w. v == w) var_eq (λ v w. refl) (f.program ++ cells_numbers f.pre ++ cells_numbers f.post ++ equations_numbers f.equations)
 
@@ -53,21 +52,21 @@ pub prune-node_of : (f : Flat) → prune (node_of f) ≡ node_of (prune_flat f)
 prune-node_of f =
     let positive : List ℕ = only (live_numbers f) f.positive in
     let pre : filter (is_kept (live_vars (node_of f))) (map positive_of f.positive) ≡ map positive_of positive
-      = ap (λ vs. filter (is_kept vs) (map positive_of f.positive)) (live_vars-node_of f)
-        ∙ filter-map positive_of (λ v. among v (live_numbers f)) (is_kept (map int_var (live_numbers f))) (is_kept-positive_of (live_numbers f)) f.positive in
+    = ap (λ vs. filter (is_kept vs) (map positive_of f.positive)) (live_vars-node_of f)
+    ∙ filter-map positive_of (λ v. among v (live_numbers f)) (is_kept (map int_var (live_numbers f))) (is_kept-positive_of (live_numbers f)) f.positive in
     let before : List Var = chunks_vars (map cell_of f.pre) ++ chunks_vars (map cell_of f.post)
-        ++ lits_vars (filter (is_kept (live_vars (node_of f))) (map positive_of f.positive)) ++ lits_vars (map equation_of f.equations) in
+    ++ lits_vars (filter (is_kept (live_vars (node_of f))) (map positive_of f.positive)) ++ lits_vars (map equation_of f.equations) in
     let used : (before ++ []) ≡ map int_var (cells_numbers f.pre ++ cells_numbers f.post ++ positive ++ equations_numbers f.equations)
-      = append-nil before
-        ∙ joined (cells_numbers f.pre) (cells_numbers f.post) positive (equations_numbers f.equations) (chunks_vars-cell_of f.pre) (chunks_vars-cell_of f.post)
-        (ap lits_vars pre ∙ lits_vars-positive_of positive) (lits_vars-equation_of f.equations) in
+    = append-nil before
+    ∙ joined (cells_numbers f.pre) (cells_numbers f.post) positive (equations_numbers f.equations) (chunks_vars-cell_of f.pre) (chunks_vars-cell_of f.post)
+    (ap lits_vars pre ∙ lits_vars-positive_of positive) (lits_vars-equation_of f.equations) in
     let behind : (chunks_vars (map cell_of f.post) ++ lits_vars (map equation_of f.equations)) ≡ map int_var (cells_numbers f.post ++ equations_numbers f.equations)
-      = both_vars (cells_numbers f.post) (equations_numbers f.equations) (chunks_vars-cell_of f.post) (lits_vars-equation_of f.equations) in
+    = both_vars (cells_numbers f.post) (equations_numbers f.equations) (chunks_vars-cell_of f.post) (lits_vars-equation_of f.equations) in
     λ i. record {
       preds = record { list = [] };
       goal = record {
         program = (ap (λ us. filter (λ v. var_in v us) (map int_var f.program)) used
-          ∙ filter-int_var (cells_numbers f.pre ++ cells_numbers f.post ++ positive ++ equations_numbers f.equations) f.program) i;
+            ∙ filter-int_var (cells_numbers f.pre ++ cells_numbers f.post ++ positive ++ equations_numbers f.equations) f.program) i;
         exist = (ap (λ us. filter (λ v. var_in v us) (map int_var f.exist)) behind ∙ filter-int_var (cells_numbers f.post ++ equations_numbers f.equations) f.exist) i;
         pure_pre = pre i;
         pre = record { chunks = map cell_of f.pre };

@@ -1,19 +1,17 @@
 -- Reading a content's variable into a new one, at goals of cells alone.
-use Rattle.std.proofs.Common.{◌≡◌, ◌∙◌, ◌+ℤ◌, ℕ, [], ◌∷◌, ◌++◌, ◌==◌, List, Bool, true, false, cond, not, ◌&&◌, ◌||◌, Option, None, Some, IsTrue, length, map, nat_le, option_and_then, option_map, pos, slice_get, slice_set, refl, suc, zero, ap, sym}
-use Rattle.std.specs.List.{list_all, list_any}
+use Rattle.std.proofs.Common.{◌≡◌, ◌∙◌, ℕ, [], ◌∷◌, ◌++◌, ◌==◌, true, false, cond, not, ◌&&◌, None, Some, IsTrue, map, nat_le, slice_get, slice_set, refl, ap, sym}
 use Rattle.std.proofs.lemmas.Bool.{and_from, and_parts, both_ways, eq-eqb, false_from_ne_true, not-true, or_left}
 use Rattle.std.proofs.lemmas.List.{map-set, map_push}
 use Rattle.cyp_cells.proofs.Among.{among-flat_map, among_left, among_right, list_all-set, list_all-slice_get, list_all_at}
 use Rattle.cyp_cells.proofs.ClearCells.{IsClear, small_from_clear}
 use Rattle.cyp_cells.proofs.NewNumber.{new_int-node_of, new_number_apart}
 use Rattle.cyp_cells.proofs.SmallCells.{IsSmall}
-use Rattle.cyp_cells.specs.CellMoves.{IsCells, is_named, is_small, is_small_cell, new_number, occurrences, read_content}
+use Rattle.cyp_cells.specs.CellMoves.{is_small, is_small_cell, new_number, occurrences, read_content}
 use Rattle.cyp_cells.specs.CellNormal.{put_cell}
 use Rattle.cyp_cells.specs.Cells.{among, cell_numbers, cell_of, cells_numbers, equation_of, equations_numbers, int_var, node_of, positive_of, term_numbers, term_of}
 use Rattle.cyp_cells.specs.declared.flat.Flat.{Flat}
 use Rattle.cyp_cells.specs.declared.flat.FlatCell.{FlatCell}
-use Rattle.cyp_cells.specs.declared.flat.FlatTerm.{FlatTerm}
-use Rattle.cyp_cells.specs.declared.flat.FlatTerm.TheVariants.{Named, Number}
+use Rattle.cyp_cells.specs.declared.flat.FlatTerm.TheVariants.{Named}
 use Rattle.cyp_goal.specs.Solving.{with_pre}
 use Rattle.cyp_heap.specs.declared.chunk.Chunk.TheVariants.{Cell}
 use Rattle.cyp_heap.specs.declared.goal.Node.{Node}
@@ -53,8 +51,8 @@ read_content-named f v = refl
 
 pub raw_read-cell_of : (f : Flat) (i : ℕ) (c : FlatCell)
     → raw_read (node_of f) i (Some (cell_of c))
-      ≡ where_true (is_program_expr (node_of f).goal (term_of c.at) && not (is_program_expr (node_of f).goal (term_of c.content))
-        && occurs_elsewhere (node_of f).goal (term_of c.content)) (Some (read_node f i c ∷ []))
+    ≡ where_true (is_program_expr (node_of f).goal (term_of c.at) && not (is_program_expr (node_of f).goal (term_of c.content))
+    && occurs_elsewhere (node_of f).goal (term_of c.content)) (Some (read_node f i c ∷ []))
 raw_read-cell_of f i c = refl
 
 -- ---- the variable that is read
@@ -64,24 +62,24 @@ pub among-read : (f : Flat) (i : ℕ) (c : FlatCell) (v : ℕ) → slice_get f.p
 among-read f i c v at content =
     among-flat_map cell_numbers v f.pre i c at
     (among_right v (term_numbers c.at) (term_numbers c.content)
-      (ap (λ t. among v (term_numbers t)) content ∙ or_left (v == v) false (eq-eqb v v refl)))
+    (ap (λ t. among v (term_numbers t)) content ∙ or_left (v == v) false (eq-eqb v v refl)))
 
 -- it isn't the new one
 pub read_apart : (f : Flat) (v : ℕ) → IsTrue (among v (cells_numbers f.pre)) → (v == new_number f) ≡ false
 read_apart f v h =
     new_number_apart f v
     (among_left v (f.program ++ cells_numbers f.pre ++ cells_numbers f.post ++ f.positive) (equations_numbers f.equations)
-      (among_left v (f.program ++ cells_numbers f.pre ++ cells_numbers f.post) f.positive
-        (among_left v (f.program ++ cells_numbers f.pre) (cells_numbers f.post) (among_right v f.program (cells_numbers f.pre) h))))
+    (among_left v (f.program ++ cells_numbers f.pre ++ cells_numbers f.post) f.positive
+    (among_left v (f.program ++ cells_numbers f.pre) (cells_numbers f.post) (among_right v f.program (cells_numbers f.pre) h))))
 
 -- it isn't an existential
 pub read_universal : (f : Flat) (v : ℕ) → IsClear f → IsTrue (among v (cells_numbers f.pre)) → among v f.exist ≡ false
 read_universal f v h there =
     false_from_ne_true (among v f.exist)
     (λ e. both_ways (among v (f.program ++ f.positive ++ cells_numbers f.pre))
-      (not-true (among v (f.program ++ f.positive ++ cells_numbers f.pre))
-        (list_all_at (λ w. not (among w (f.program ++ f.positive ++ cells_numbers f.pre))) v f.exist h.apart e))
-      (among_right v (f.program ++ f.positive) (cells_numbers f.pre) there))
+    (not-true (among v (f.program ++ f.positive ++ cells_numbers f.pre))
+    (list_all_at (λ w. not (among w (f.program ++ f.positive ++ cells_numbers f.pre))) v f.exist h.apart e))
+    (among_right v (f.program ++ f.positive) (cells_numbers f.pre) there))
 
 -- ---- the node in which it is read
 
@@ -119,7 +117,7 @@ small-read_raw f i c y h at =
     let small : IsTrue (is_small_cell c) = list_all-slice_get is_small_cell f.pre i c at h.small_pre in
     record {
       pre = list_all-set is_small_cell f.pre i (record { at = c.at; content = Named y })
-        (and_from (is_small c.at) true (and_parts (is_small c.at) (is_small c.content) small).0 refl) h.small_pre;
+          (and_from (is_small c.at) true (and_parts (is_small c.at) (is_small c.content) small).0 refl) h.small_pre;
       post = h.small_post;
       equations = (small_from_clear f h).equations;
     }

@@ -1,7 +1,7 @@
 -- The normal form of a goal of cells alone in which a variable is read.
-use Rattle.std.proofs.Common.{◌≡◌, ◌∙◌, ℕ, pos, [], ◌∷◌, ◌++◌, ◌==◌, List, Bool, true, false, cond, not, ◌&&◌, ◌||◌, Option, None, Some, IsTrue, length, map, option_and_then, option_map, slice_get, refl, suc, zero, ap, sym, add-one}
-use Rattle.std.specs.List.{list_all, list_any}
-use Rattle.std.proofs.lemmas.Bool.{and_from, eq-eqb, false≢true, or_from, or_left}
+use Rattle.std.proofs.Common.{◌≡◌, ◌∙◌, ℕ, pos, [], ◌∷◌, ◌++◌, ◌==◌, List, Bool, true, false, cond, not, ◌&&◌, ◌||◌, None, Some, IsTrue, length, map, option_and_then, option_map, slice_get, refl, suc, ap, sym, add-one}
+use Rattle.std.specs.List.{list_all}
+use Rattle.std.proofs.lemmas.Bool.{eq-eqb, or_from, or_left}
 use Rattle.std.proofs.lemmas.List.{length_push}
 use Rattle.cyp_cells.proofs.Among.{among_right, list_any-append}
 use Rattle.cyp_cells.proofs.ClearCells.{IsClear}
@@ -78,7 +78,7 @@ solve_pre-read_form : (k : ℕ) (f : Flat) (i : ℕ) (c : FlatCell) (y v : ℕ) 
 solve_pre-read_form k f i c y v small unread apart universal =
     ap (solve_pre_at k (read_form f i c y v))
     (first_solved-push (is_logical (node_of (read_raw f i c y)).goal) f.positive (reads y v) (put_for v (Named y))
-      (solved_eq-reads (is_logical (node_of (read_raw f i c y)).goal) y v (new_not_logical f i c y) (old_is_logical f i c y v unread apart universal) apart))
+    (solved_eq-reads (is_logical (node_of (read_raw f i c y)).goal) y v (new_not_logical f i c y) (old_is_logical f i c y v unread apart universal) apart))
     ∙ ap (option_and_then (solve_pre k))
     (substitute-node_of v (Named y) (read_raw f i c y) (map (λ w. cond (v == w) y w) f.positive) refl small (put_positive y v f.positive))
     ∙ solve_pre-node_of k (read_left f i c y v)
@@ -116,11 +116,11 @@ solve-read_node f i c v h at content unread =
     let y : ℕ = new_number f in
     let there : IsTrue (among v (cells_numbers f.pre)) = among-read f i c v at content in
     let long : length (map positive_of f.positive ++ reads y v ∷ []) ≡ suc (length (map positive_of f.positive))
-      = length_push (map positive_of f.positive) (reads y v) ∙ add-one (length (map positive_of f.positive)) in
+    = length_push (map positive_of f.positive) (reads y v) ∙ add-one (length (map positive_of f.positive)) in
     let pre : solve_pre (length (map positive_of f.positive ++ reads y v ∷ [])) (read_form f i c y v) ≡ Some (node_of (read_flat f v))
-      = ap (λ k. solve_pre k (read_form f i c y v)) long
-        ∙ solve_pre-read_form (length (map positive_of f.positive)) f i c y v (small-read_raw f i c y h at) unread (read_apart f v there) (read_universal f v h there)
-        ∙ ap (λ g. Some (node_of g)) (read_left-read_flat f i c v h.clear at content) in
+    = ap (λ k. solve_pre k (read_form f i c y v)) long
+    ∙ solve_pre-read_form (length (map positive_of f.positive)) f i c y v (small-read_raw f i c y h at) unread (read_apart f v there) (read_universal f v h there)
+    ∙ ap (λ g. Some (node_of g)) (read_left-read_flat f i c v h.clear at content) in
     ap solve (read_node-read_form f i c v content)
     ∙ ap (option_and_then (λ (m : Node). solve_post (length m.goal.pure_post) m)) pre
     ∙ ap (λ es. solve_post (length (map equation_of es)) (node_of (read_flat f v))) h.clear

@@ -1,5 +1,5 @@
 -- When a variable is read, at goals of cells alone.
-use Rattle.std.proofs.Common.{◌≡◌, ◌∙◌, ℕ, [], ◌∷◌, ◌++◌, ◌==◌, List, Bool, true, false, ◌||◌, Some, IsTrue, count_by, map, nat_le, slice_get, refl, ap, append-nil}
+use Rattle.std.proofs.Common.{◌≡◌, ◌∙◌, ℕ, [], ◌∷◌, ◌++◌, ◌==◌, List, false, Some, count_by, map, nat_le, slice_get, refl, ap, append-nil}
 use Rattle.std.specs.List.{list_any}
 use Rattle.std.proofs.lemmas.Bool.{or_from}
 use Rattle.cyp_cells.proofs.Among.{list_any-append}
@@ -9,7 +9,7 @@ use Rattle.cyp_cells.proofs.Embedding.{chunks_vars-cell_of, joined, lits_vars-eq
 use Rattle.cyp_cells.proofs.ReadCells.{read_form, read_node, read_node-read_form, read_raw, reads, small-read_raw}
 use Rattle.cyp_cells.proofs.SmallCells.{IsSmall, wide_chunks-cell_of, wide_lits-equation_of, wide_lits-positive_of}
 use Rattle.cyp_cells.specs.CellMoves.{is_program_term, new_number, occurrences}
-use Rattle.cyp_cells.specs.Cells.{cells_numbers, equation_of, equations_numbers, goal_of, int_var, node_of, positive_of, term_of}
+use Rattle.cyp_cells.specs.Cells.{cells_numbers, equations_numbers, goal_of, int_var, positive_of, term_of}
 use Rattle.cyp_cells.specs.declared.flat.Flat.{Flat}
 use Rattle.cyp_cells.specs.declared.flat.FlatCell.{FlatCell}
 use Rattle.cyp_cells.specs.declared.flat.FlatTerm.{FlatTerm}
@@ -30,7 +30,7 @@ occurs_elsewhere-goal_of f v clear =
     let stand : List ℕ = cells_numbers f.pre ++ cells_numbers f.post ++ f.positive in
     ap (λ vs. nat_le 2 (count_by (var_eq (int_var v)) vs))
     (joined (cells_numbers f.pre) (cells_numbers f.post) f.positive (equations_numbers f.equations) (chunks_vars-cell_of f.pre) (chunks_vars-cell_of f.post)
-      (lits_vars-positive_of f.positive) (lits_vars-equation_of f.equations))
+    (lits_vars-positive_of f.positive) (lits_vars-equation_of f.equations))
     ∙ ap (nat_le 2) (count_by-map int_var (λ w. v == w) (var_eq (int_var v)) (λ w. refl) (stand ++ equations_numbers f.equations))
     ∙ ap (λ es. nat_le 2 (count_by (λ w. v == w) (stand ++ equations_numbers es))) clear
     ∙ ap (λ vs. nat_le 2 (count_by (λ w. v == w) vs)) (append-nil stand)

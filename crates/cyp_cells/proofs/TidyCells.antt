@@ -94,7 +94,7 @@ plain_numbers-address_terms : (cs : List FlatCell) → IsTrue (list_all (λ (c :
 plain_numbers-address_terms [] h = refl
 plain_numbers-address_terms (c ∷ cs) h =
     let parts : IsTrue (is_named c.at) × IsTrue (list_all (λ (d : FlatCell). is_named d.at) cs)
-      = and_parts (is_named c.at) (list_all (λ (d : FlatCell). is_named d.at) cs) h in
+    = and_parts (is_named c.at) (list_all (λ (d : FlatCell). is_named d.at) cs) h in
     plain_numbers_at c.at (address_terms cs) parts.0 (plain_numbers-address_terms cs parts.1)
 
 abbrev least_above_zero : List Term → Var → Lit
@@ -104,7 +104,7 @@ pub address_lits-address_terms : (cs : List FlatCell) → IsTrue (list_all (λ (
     → address_lits (flat_map address (map cell_of cs)) ≡ map positive_of (once (address_numbers cs))
 address_lits-address_terms cs h =
     let bases : without_repeats var_eq (flat_map term_vars (address_terms cs)) ≡ map int_var (once (address_numbers cs))
-      = ap (without_repeats var_eq) (address_vars cs) ∙ without_repeats-map int_var (λ v w. v == w) var_eq (λ v w. refl) (address_numbers cs) in
+    = ap (without_repeats var_eq) (address_vars cs) ∙ without_repeats-map int_var (λ v w. v == w) var_eq (λ v w. refl) (address_numbers cs) in
     (λ i. map (least_above_zero (address_terms cs)) (bases i) ++ map above_zero (plain_numbers-address_terms cs h i))
     ∙ append-nil (map (least_above_zero (address_terms cs)) (map int_var (once (address_numbers cs))))
     ∙ map_after int_var positive_of (least_above_zero (address_terms cs))
@@ -115,9 +115,9 @@ address_lits-address_terms cs h =
 pub tidy_node-node_of : (f : Flat) → IsTrue (list_all (λ (c : FlatCell). is_named c.at) f.pre) → tidy_node (node_of f) ≡ node_of (tidy_flat f)
 tidy_node-node_of f h =
     let positive : with_all_new lit_eq (tidy_lits (map positive_of f.positive)) (address_lits (flat_map address (map cell_of f.pre)))
-        ≡ map positive_of (with_all_new (λ v w. v == w) (once f.positive) (once (address_numbers f.pre)))
-      = ap₂ (with_all_new lit_eq) (tidy_lits-positive_of f.positive) (address_lits-address_terms f.pre h)
-        ∙ with_all_new-map positive_of (λ v w. v == w) lit_eq lit_eq-positive_of (once f.positive) (once (address_numbers f.pre)) in
+    ≡ map positive_of (with_all_new (λ v w. v == w) (once f.positive) (once (address_numbers f.pre)))
+    = ap₂ (with_all_new lit_eq) (tidy_lits-positive_of f.positive) (address_lits-address_terms f.pre h)
+    ∙ with_all_new-map positive_of (λ v w. v == w) lit_eq lit_eq-positive_of (once f.positive) (once (address_numbers f.pre)) in
     λ i. record {
       preds = record { list = [] };
       goal = record {
