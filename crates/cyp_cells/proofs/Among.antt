@@ -1,5 +1,5 @@
 -- Which numbers stand in a list.
-use Rattle.std.proofs.Common.{◌≡◌, ◌∙◌, ℕ, slice_get, slice_set, Some, suc, zero, [], ◌∷◌, ◌++◌, ◌==◌, List, Bool, true, false, cond, not, ◌&&◌, ◌||◌, IsTrue, map, flat_map, refl, sym, ap, inl, inr, ⊎_elim}
+use Rattle.std.proofs.Common.{◌≡◌, ◌∙◌, ℕ, slice_get, slice_set, Some, suc, zero, [], ◌∷◌, ◌++◌, ◌==◌, List, Bool, true, false, cond, ◌&&◌, ◌||◌, IsTrue, flat_map, refl, sym, ap, ⊎_elim}
 use Rattle.std.specs.List.{list_all, list_any}
 use Rattle.std.proofs.lemmas.Bool.{false≢true, and_parts, and_from, eqb-true, eq-eqb, or_cases, or_left, or_right}
 use Rattle.std.proofs.lemmas.Option.{none-some, same_Some}

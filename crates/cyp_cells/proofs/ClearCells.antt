@@ -1,5 +1,5 @@
 -- Goals of cells alone without equations, as a search keeps them.
-use Rattle.std.proofs.Common.{◌≡◌, ◌∙◌, ℕ, [], ◌∷◌, ◌++◌, ◌==◌, List, Bool, true, false, not, ◌&&◌, IsTrue, refl, sym, ap, ⊎_elim}
+use Rattle.std.proofs.Common.{◌≡◌, ◌∙◌, ℕ, [], ◌∷◌, ◌++◌, ◌==◌, List, Bool, not, IsTrue, refl, sym, ap, ⊎_elim}
 use Rattle.std.specs.List.{list_all}
 use Rattle.std.proofs.lemmas.Bool.{and_from, and_parts, both_ways, false_from_ne_true, not-true, not_from_false, or_cases}
 use Rattle.cyp_cells.proofs.Among.{among_left, among_right, list_any-append}

@@ -1,5 +1,5 @@
 -- The limits of a node, at goals of cells alone.
-use Rattle.std.proofs.Common.{◌≡◌, ◌∙◌, ℕ, [], ◌++◌, ◌+◌, List, Bool, true, false, not, ◌&&◌, filter, flat_map, length, map, nat_le, refl, ap, add-zero}
+use Rattle.std.proofs.Common.{◌≡◌, ◌∙◌, ℕ, [], Bool, true, false, not, ◌&&◌, filter, length, nat_le, refl, ap, add-zero}
 use Rattle.std.proofs.lemmas.List.{length-map}
 use Rattle.cyp_cells.proofs.Counts.{sum_by-threes}
 use Rattle.cyp_cells.proofs.Embedding.{no_set_vars, node_vars-node_of}
@@ -10,7 +10,6 @@ use Rattle.cyp_cells.specs.declared.flat.Flat.{Flat}
 use Rattle.cyp_heap.specs.Goals.{node_vars}
 use Rattle.cyp_heap.specs.Limits.{chunk_elements, chunk_units, goal_elements, is_within_limits, lit_units, node_units}
 use Rattle.cyp_term.specs.Terms.{is_set_var, lit_elements, term_eq, without_repeats}
-use Rattle.cyp_term.specs.declared.term.Var.{Var}
 
 -- no literal or cell has an element of a set
 goal_elements-goal_of : (f : Flat) → goal_elements (goal_of f) ≡ []

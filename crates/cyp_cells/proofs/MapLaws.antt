@@ -31,13 +31,6 @@ map-map_when p f g h e (x ∷ xs) t =
     let parts : IsTrue (p x) × IsTrue (list_all p xs) = and_parts (p x) (list_all p xs) t in
     λ i. e x parts.0 i ∷ map-map_when p f g h e xs parts.1 i
 
--- a map that changes no element that passes
-pub map_kept : {A : Type 0} (p : A → Bool) (g : A → A) → ((x : A) → IsTrue (p x) → g x ≡ x) → (xs : List A) → IsTrue (list_all p xs) → map g xs ≡ xs
-map_kept p g e [] t = refl
-map_kept p g e (x ∷ xs) t =
-    let parts : IsTrue (p x) × IsTrue (list_all p xs) = and_parts (p x) (list_all p xs) t in
-    λ i. e x parts.0 i ∷ map_kept p g e xs parts.1 i
-
 pub flat_map-map : {A B C D : Type 0} (f : A → B) (g : A → List C) (h : B → List D) (k : C → D) → ((x : A) → h (f x) ≡ map k (g x)) → (xs : List A)
     → flat_map h (map f xs) ≡ map k (flat_map g xs)
 flat_map-map f g h k e [] = refl

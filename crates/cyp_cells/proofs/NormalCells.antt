@@ -1,5 +1,5 @@
 -- The normal form of a goal of cells alone is the general one.
-use Rattle.std.proofs.Common.{◌≡◌, ◌∙◌, List, Option, None, Some, IsTrue, cond, length, map, option_and_then, option_map, refl, ap}
+use Rattle.std.proofs.Common.{◌≡◌, ◌∙◌, List, Option, None, Some, IsTrue, cond, length, map, option_and_then, option_map, ap}
 use Rattle.std.specs.List.{list_all}
 use Rattle.cyp_cells.proofs.Embedding.{renaming_of}
 use Rattle.cyp_cells.proofs.LimitCells.{is_within_limits-node_of}

@@ -1,5 +1,5 @@
 -- New numbers, at goals of cells alone.
-use Rattle.std.proofs.Common.{◌≡◌, ◌∙◌, ℕ, [], ◌∷◌, ◌++◌, ◌==◌, List, Bool, true, false, cond, not, ◌&&◌, ◌||◌, None, Some, Option, IsTrue, map, pos, refl, sym, ap, suc}
+use Rattle.std.proofs.Common.{◌≡◌, ◌∙◌, ℕ, [], ◌∷◌, ◌++◌, ◌==◌, List, Bool, true, false, cond, not, Some, Option, IsTrue, map, pos, refl, sym, ap, suc}
 use Rattle.std.specs.List.{list_all}
 use Rattle.std.proofs.lemmas.Bool.{and_parts, eqb-false, eqb-true, false≢true, ne_eqb}
 use Rattle.cyp_cells.proofs.Among.{all_among_once, list_all-flat_map, list_all_parts}

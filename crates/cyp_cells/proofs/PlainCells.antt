@@ -1,9 +1,9 @@
 -- What the normal form asks of a goal of cells alone, and that a solved equation keeps it.
-use Rattle.std.proofs.Common.{◌≡◌, ◌∙◌, ℕ, [], ◌∷◌, ◌++◌, ◌==◌, List, Bool, true, false, cond, not, ◌&&◌, ◌||◌, Option, None, Some, IsTrue, flat_map, map, pos, refl, sym, ap, subst, inl, inr, ◌⊎◌, ⊎_elim}
+use Rattle.std.proofs.Common.{◌≡◌, ◌∙◌, ℕ, [], ◌∷◌, ◌++◌, ◌==◌, List, Bool, true, false, not, ◌&&◌, ◌||◌, Option, None, Some, IsTrue, flat_map, map, pos, refl, sym, ap, subst, inl, inr, ◌⊎◌, ⊎_elim}
 use Rattle.std.specs.List.{list_all}
 use Rattle.std.proofs.lemmas.Bool.{and_from, and_parts, not-true, or_parts}
 use Rattle.std.proofs.lemmas.Option.{cond_some, none-some, same_Some}
-use Rattle.cyp_cells.proofs.Among.{list_all_at, list_all-flat_map, list_any-append}
+use Rattle.cyp_cells.proofs.Among.{list_all_at, list_any-append}
 use Rattle.cyp_cells.proofs.MapLaws.{list_all-map}
 use Rattle.cyp_cells.proofs.PutCells.{apply_term-term_of, put_for}
 use Rattle.cyp_cells.proofs.SmallCells.{IsSmall, is_small_equation, small-put_flat}

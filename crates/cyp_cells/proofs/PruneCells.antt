@@ -8,7 +8,6 @@ use Rattle.cyp_cells.specs.declared.flat.Flat.{Flat}
 use Rattle.cyp_goal.specs.Pruning.{is_kept, live_vars, prune, spread, spread_times}
 use Rattle.cyp_heap.specs.Chunks.{chunks_vars}
 use Rattle.cyp_term.specs.Terms.{lits_vars, var_eq, var_in, with_new, without_repeats}
-use Rattle.cyp_term.specs.declared.lit.Lit.{Lit}
 use Rattle.cyp_term.specs.declared.term.Var.{Var}
 
 -- ---- a literal with one variable makes no other variable live

@@ -1,6 +1,5 @@
 -- A variable by a term: the substitution in the node is what is put in for it.
-use Rattle.std.proofs.Common.{◌≡◌, ◌∙◌, ℕ, [], ◌∷◌, ◌==◌, List, Bool, true, false, cond, ◌||◌, None, Some, IsTrue, map, refl, ap, sym}
-use Rattle.std.specs.List.{list_all}
+use Rattle.std.proofs.Common.{◌≡◌, ◌∙◌, ℕ, ◌==◌, List, Bool, true, false, cond, ◌||◌, None, Some, IsTrue, map, refl, ap}
 use Rattle.cyp_cells.proofs.Embedding.{plus-term_of}
 use Rattle.cyp_cells.proofs.MapLaws.{map-map}
 use Rattle.cyp_cells.proofs.SmallCells.{IsSmall, wide_node-node_of, wide_term-term_of, small-put_flat}

@@ -1,7 +1,7 @@
 -- The normal form of a goal of cells alone in which a variable is read.
-use Rattle.std.proofs.Common.{◌≡◌, ◌∙◌, ℕ, pos, [], ◌∷◌, ◌++◌, ◌==◌, List, Bool, true, false, cond, not, ◌&&◌, ◌||◌, Option, None, Some, IsTrue, length, map, option_and_then, option_map, slice_get, refl, suc, zero, ap, sym, add-one}
-use Rattle.std.specs.List.{list_all, list_any}
-use Rattle.std.proofs.lemmas.Bool.{and_from, eq-eqb, false≢true, or_from, or_left}
+use Rattle.std.proofs.Common.{◌≡◌, ◌∙◌, ℕ, pos, [], ◌∷◌, ◌++◌, ◌==◌, List, Bool, true, false, cond, not, ◌&&◌, ◌||◌, None, Some, IsTrue, length, map, option_and_then, option_map, slice_get, refl, suc, ap, sym, add-one}
+use Rattle.std.specs.List.{list_all}
+use Rattle.std.proofs.lemmas.Bool.{eq-eqb, or_from, or_left}
 use Rattle.std.proofs.lemmas.List.{length_push}
 use Rattle.cyp_cells.proofs.Among.{among_right, list_any-append}
 use Rattle.cyp_cells.proofs.ClearCells.{IsClear}

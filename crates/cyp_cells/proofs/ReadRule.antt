@@ -1,5 +1,5 @@
 -- When a variable is read, at goals of cells alone.
-use Rattle.std.proofs.Common.{◌≡◌, ◌∙◌, ℕ, [], ◌∷◌, ◌++◌, ◌==◌, List, Bool, true, false, ◌||◌, Some, IsTrue, count_by, map, nat_le, slice_get, refl, ap, append-nil}
+use Rattle.std.proofs.Common.{◌≡◌, ◌∙◌, ℕ, [], ◌∷◌, ◌++◌, ◌==◌, List, false, Some, count_by, map, nat_le, slice_get, refl, ap, append-nil}
 use Rattle.std.specs.List.{list_any}
 use Rattle.std.proofs.lemmas.Bool.{or_from}
 use Rattle.cyp_cells.proofs.Among.{list_any-append}
@@ -9,7 +9,7 @@ use Rattle.cyp_cells.proofs.Embedding.{chunks_vars-cell_of, joined, lits_vars-eq
 use Rattle.cyp_cells.proofs.ReadCells.{read_form, read_node, read_node-read_form, read_raw, reads, small-read_raw}
 use Rattle.cyp_cells.proofs.SmallCells.{IsSmall, wide_chunks-cell_of, wide_lits-equation_of, wide_lits-positive_of}
 use Rattle.cyp_cells.specs.CellMoves.{is_program_term, new_number, occurrences}
-use Rattle.cyp_cells.specs.Cells.{cells_numbers, equation_of, equations_numbers, goal_of, int_var, node_of, positive_of, term_of}
+use Rattle.cyp_cells.specs.Cells.{cells_numbers, equations_numbers, goal_of, int_var, positive_of, term_of}
 use Rattle.cyp_cells.specs.declared.flat.Flat.{Flat}
 use Rattle.cyp_cells.specs.declared.flat.FlatCell.{FlatCell}
 use Rattle.cyp_cells.specs.declared.flat.FlatTerm.{FlatTerm}

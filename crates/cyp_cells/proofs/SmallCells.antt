@@ -1,5 +1,5 @@
 -- Small numbers: no offset of the node is wide, and putting a small term in keeps them small.
-use Rattle.std.proofs.Common.{◌≡◌, ℕ, [], ◌∷◌, ◌==◌, List, Bool, true, false, cond, ◌&&◌, ◌||◌, IsTrue, map, refl}
+use Rattle.std.proofs.Common.{◌≡◌, ℕ, [], ◌∷◌, ◌==◌, List, Bool, true, false, cond, ◌&&◌, IsTrue, map, refl}
 use Rattle.std.specs.List.{list_all, list_any}
 use Rattle.std.proofs.lemmas.Bool.{and_from, and_parts, not_from_true}
 use Rattle.cyp_cells.proofs.MapLaws.{list_all-map_when, list_any-map_none}
@@ -14,7 +14,6 @@ use Rattle.cyp_cells.specs.declared.flat.FlatTerm.TheVariants.{Named, Number}
 use Rattle.cyp_heap.specs.Chunks.{wide_chunk}
 use Rattle.cyp_heap.specs.Goals.{wide_node}
 use Rattle.cyp_term.specs.Terms.{wide_lit, wide_term}
-use Rattle.cyp_term.specs.declared.lit.Lit.{Lit}
 
 abbrev pub is_small_equation : FlatEquation → Bool
 is_small_equation e = is_small e.left && is_small e.right
@@ -41,7 +40,7 @@ wide_lit-equation_of e h =
     let parts : IsTrue (is_small e.left) × IsTrue (is_small e.right) = and_parts (is_small e.left) (is_small e.right) h in
     rw (wide_term-term_of e.left parts.0) (wide_term-term_of e.right parts.1)
 
--- literals that say that a variable is positive, before others
+-- literals that say that a variable is positive
 pub wide_lits-positive_of : (vs : List ℕ) → list_any wide_lit (map positive_of vs) ≡ false
 wide_lits-positive_of [] = refl
 wide_lits-positive_of (v ∷ vs) = wide_lits-positive_of vs

@@ -1,18 +1,14 @@
 -- The steps of the normal form that solve equations, at goals of cells alone.
-use Rattle.std.proofs.Common.{◌≡◌, ◌∙◌, ◌+ℤ◌, ℕ, [], ◌∷◌, ◌++◌, ◌==◌, List, Bool, true, false, cond, not, ◌&&◌, Option, None, Some, IsTrue, length, map, neg_ℤ, option_and_then, option_map, pos, refl, suc, zero, ap, sym}
-use Rattle.std.specs.List.{list_all, list_any}
-use Rattle.std.proofs.lemmas.Bool.{and_from, and_parts}
+use Rattle.std.proofs.Common.{◌≡◌, ◌∙◌, ℕ, [], ◌∷◌, List, Bool, true, false, cond, not, ◌&&◌, Option, None, Some, map, neg_ℤ, option_and_then, option_map, pos, refl, suc, zero, ap}
 use Rattle.cyp_cells.proofs.Embedding.{plus-term_of, var_in-int_var}
-use Rattle.cyp_cells.proofs.PutCells.{put_for, substitute-node_of}
-use Rattle.cyp_cells.proofs.SmallCells.{IsSmall, is_small_equation}
-use Rattle.cyp_cells.specs.CellMoves.{is_named, is_small}
-use Rattle.cyp_cells.specs.CellNormal.{Picked, Solution, pick_by, pick_first, put_flat, solution, solve_flat, solve_picked, solved_side_by}
+use Rattle.cyp_cells.proofs.PutCells.{put_for}
+use Rattle.cyp_cells.specs.CellNormal.{Picked, Solution, pick_by, pick_first, solution, solved_side_by}
 use Rattle.cyp_cells.specs.Cells.{among, equation_of, int_var, node_of, positive_of, same_term, term_of}
 use Rattle.cyp_cells.specs.declared.flat.Flat.{Flat}
 use Rattle.cyp_cells.specs.declared.flat.FlatEquation.{FlatEquation}
 use Rattle.cyp_cells.specs.declared.flat.FlatTerm.{FlatTerm}
 use Rattle.cyp_cells.specs.declared.flat.FlatTerm.TheVariants.{Named, Number}
-use Rattle.cyp_goal.specs.Solving.{bind_int, first_solved, first_some, is_logical, solve_post, solve_pre, solved_any, solved_eq, solved_side, substitute, with_post, with_pre}
+use Rattle.cyp_goal.specs.Solving.{first_solved, first_some, is_logical, solve_pre, solved_any, solved_eq, solved_side, substitute, with_pre}
 use Rattle.cyp_heap.specs.declared.goal.Node.{Node}
 use Rattle.cyp_term.specs.Terms.{base_eq, plus, var_in}
 use Rattle.cyp_term.specs.declared.lit.Lit.{Lit}
