@@ -79,3 +79,14 @@ pub least_allowed-none : (n : Node) (rule : ℕ → Rule) → ((i : ℕ) → pre
 least_allowed-none n rule none [] = refl
 least_allowed-none n rule none (i ∷ is) =
     ap (λ (o : Option (List Node)). elim o [ Some ns ↦ rule i ∷ [] | None ↦ least_allowed n (map rule is) ]) (none i) ∙ least_allowed-none n rule none is
+
+least_kept : (kinds : Rule → Bool) (n : Node) (r : Rule) (o : Option (List Node)) (later : List Rule) → kinds r ≡ true → of_kinds kinds (rows n later) ≡ rows n later
+    → of_kinds kinds (rows n (elim o [ Some ns ↦ r ∷ [] | None ↦ later ])) ≡ rows n (elim o [ Some ns ↦ r ∷ [] | None ↦ later ])
+least_kept kinds n r None later k h = h
+least_kept kinds n r (Some ns) later k h = kept_row kinds r (row n r) [] k (row-rule n r)
+
+-- the row of a least place stays, where its kind is asked for
+pub of_kinds-least : (kinds : Rule → Bool) (n : Node) (rule : ℕ → Rule) → ((i : ℕ) → kinds (rule i) ≡ true) → (is : List ℕ)
+    → of_kinds kinds (rows n (least_allowed n (map rule is))) ≡ rows n (least_allowed n (map rule is))
+of_kinds-least kinds n rule k [] = refl
+of_kinds-least kinds n rule k (i ∷ is) = least_kept kinds n (rule i) (premises n (rule i)) (least_allowed n (map rule is)) (k i) (of_kinds-least kinds n rule k is)

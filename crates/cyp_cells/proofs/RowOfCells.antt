@@ -41,7 +41,7 @@ dead_by g m (x ∷ xs) raw is c e =
 
 -- ---- the row by its premises
 
-abbrev row_by : Rule → Option (List Node) → Option Row
+abbrev pub row_by : Rule → Option (List Node) → Option Row
 row_by r o = elim o [
   | None ↦ None
   | Some ns ↦ elim (list_any (λ (m : Node). dead m.goal) ns) [ true ↦ None | false ↦ Some (record { rule = r; premises = ns }) ]
