@@ -1,18 +1,13 @@
 -- Worked goals: the normal form of cells alone is that of the general definition.
-use Rattle.std.proofs.Common.{◌≡◌, ℕ, [], ◌∷◌, List, map, Option, Some, None, option_map, refl}
-use Rattle.cyp_term.specs.declared.term.Var.{Var}
-use Rattle.cyp_heap.specs.declared.goal.Node.{Node}
-use Rattle.cyp_goal.specs.Normal.{Renaming, normal}
+use Rattle.std.proofs.Common.{◌≡◌, ℕ, [], ◌∷◌, option_map, refl}
+use Rattle.cyp_cells.proofs.Embedding.{renaming_of}
+use Rattle.cyp_goal.specs.Normal.{normal}
 use Rattle.cyp_cells.specs.declared.flat.FlatTerm.{FlatTerm}
 use Rattle.cyp_cells.specs.declared.flat.FlatTerm.TheVariants.{Named, Number}
 use Rattle.cyp_cells.specs.declared.flat.FlatCell.{FlatCell}
 use Rattle.cyp_cells.specs.declared.flat.Flat.{Flat}
-use Rattle.cyp_cells.specs.Cells.{int_var, node_of}
-use Rattle.cyp_cells.specs.CellNormal.{FlatRenaming, normal_flat}
-use Rattle.cyp_cells.specs.CellMoves.{frame_at}
-
-abbrev renaming_of : FlatRenaming → Renaming
-renaming_of r = record { node = node_of r.flat; old = map int_var r.old }
+use Rattle.cyp_cells.specs.Cells.{node_of}
+use Rattle.cyp_cells.specs.CellNormal.{normal_flat}
 
 abbrev agrees : Flat → Type 0
 agrees f = normal (node_of f) ≡ option_map renaming_of (normal_flat f)
