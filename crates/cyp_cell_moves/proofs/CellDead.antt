@@ -11,10 +11,10 @@ use Rattle.cyp_cells.specs.declared.flat.FlatCell.{FlatCell}
 use Rattle.cyp_cells.specs.declared.flat.FlatEquation.{FlatEquation}
 use Rattle.cyp_cells.specs.Cells.{cell_of, equation_of, goal_of, same_term}
 use Rattle.cyp_cells.specs.CellMoves.{has_existential, is_consistent}
-use Rattle.cyp_cells.proofs.CellTerms.{is_open-equation}
-use Rattle.cyp_cells.proofs.CellFacts.{IsNamed}
-use Rattle.cyp_cells.proofs.CellModels.{satisfiable-facts}
-use Rattle.cyp_cells.proofs.CellShown.{not_shown}
+use Rattle.cyp_cell_moves.proofs.CellTerms.{is_open-equation}
+use Rattle.cyp_cell_moves.proofs.CellFacts.{IsNamed}
+use Rattle.cyp_cell_moves.proofs.CellModels.{satisfiable-facts}
+use Rattle.cyp_cell_moves.proofs.CellShown.{not_shown}
 
 -- ---- from the four tests, in order
 -- dead by its four tests

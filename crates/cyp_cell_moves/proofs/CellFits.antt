@@ -20,9 +20,9 @@ use Rattle.cyp_cells.specs.declared.flat.FlatTerm.{FlatTerm}
 use Rattle.cyp_cells.specs.Cells.{all_numbers, cell_numbers, cells_numbers, equations_numbers, goal_of, int_var, once, positive_of, term_numbers, term_of}
 use Rattle.cyp_cells.specs.CellNormal.{flat_units, is_flat_within}
 use Rattle.cyp_cells.specs.CellMoves.{IsCells}
-use Rattle.cyp_cells.proofs.CellTerms.{term_vars-term_of}
-use Rattle.cyp_cells.proofs.CellFacts.{IsNamed, addresses, all_differ, facts-goal_of}
-use Rattle.cyp_cells.proofs.Counting.{length-without_repeats-le}
+use Rattle.cyp_cell_moves.proofs.CellTerms.{term_vars-term_of}
+use Rattle.cyp_cell_moves.proofs.CellFacts.{IsNamed, addresses, all_differ, facts-goal_of}
+use Rattle.cyp_cell_moves.proofs.Counting.{length-without_repeats-le}
 
 -- ---- the limits that a goal keeps
 pub record Limits (f : Flat) : Type 0 where

@@ -7,8 +7,8 @@ use Rattle.cyp_cells.specs.declared.flat.Flat.{Flat}
 use Rattle.cyp_cells.specs.declared.flat.FlatCell.{FlatCell}
 use Rattle.cyp_cells.specs.declared.flat.FlatTerm.{FlatTerm}
 use Rattle.cyp_cells.specs.Cells.{all_numbers, among, cell_numbers, cells_numbers, equations_numbers, term_numbers}
-use Rattle.cyp_cells.proofs.Counting.{Decides-among}
-use Rattle.cyp_cells.proofs.CellFits.{HasKnown, pre_known}
+use Rattle.cyp_cell_moves.proofs.Counting.{Decides-among}
+use Rattle.cyp_cell_moves.proofs.CellFits.{HasKnown, pre_known}
 
 -- ---- between the test and the fact
 pub Decides-among-numbers : (v : ℕ) (vs : List ℕ) → Decides (among v vs) (Among v vs)

@@ -8,7 +8,7 @@ use Rattle.cyp_cells.specs.declared.flat.FlatCell.{FlatCell}
 use Rattle.cyp_cells.specs.declared.flat.FlatTerm.{FlatTerm}
 use Rattle.cyp_cells.specs.Cells.{among, cell_numbers, cells_numbers, term_numbers}
 use Rattle.cyp_cells.specs.CellMoves.{is_named, is_small, is_small_cell, without_at}
-use Rattle.cyp_cells.proofs.Members.{AreAmong, among_left, among_right, among_parts}
+use Rattle.cyp_cell_moves.proofs.Members.{AreAmong, among_left, among_right, among_parts}
 
 -- the cell with both terms changed
 abbrev pub over_cell : (FlatTerm → FlatTerm) → FlatCell → FlatCell

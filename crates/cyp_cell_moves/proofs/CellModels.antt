@@ -17,8 +17,8 @@ use Rattle.cyp_cells.specs.declared.flat.FlatTerm.{FlatTerm}
 use Rattle.cyp_cells.specs.declared.flat.FlatTerm.TheVariants.{Named, Number}
 use Rattle.cyp_cells.specs.Cells.{goal_of, positive_of, same_term, term_of}
 use Rattle.cyp_cells.specs.CellMoves.{is_consistent, is_named, terms_differ}
-use Rattle.cyp_cells.proofs.CellTerms.{Decides-same_term}
-use Rattle.cyp_cells.proofs.CellFacts.{IsNamed, addresses, addresses_named, all_differ, facts-goal_of}
+use Rattle.cyp_cell_moves.proofs.CellTerms.{Decides-same_term}
+use Rattle.cyp_cell_moves.proofs.CellFacts.{IsNamed, addresses, addresses_named, all_differ, facts-goal_of}
 
 -- ---- literals of both lists
 AllTrue-append : (s : Assignment) (ls ms : List Lit) → AllTrue s ls → AllTrue s ms → AllTrue s (ls ++ ms)

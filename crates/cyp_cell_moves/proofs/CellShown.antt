@@ -14,10 +14,10 @@ use Rattle.cyp_cells.specs.declared.flat.Flat.{Flat}
 use Rattle.cyp_cells.specs.declared.flat.FlatTerm.{FlatTerm}
 use Rattle.cyp_cells.specs.Cells.{goal_of, same_term, term_of}
 use Rattle.cyp_cells.specs.CellMoves.{IsCells, is_consistent, may_equal}
-use Rattle.cyp_cells.proofs.CellTerms.{Decides-same_term, is_open-equation}
-use Rattle.cyp_cells.proofs.CellFacts.{IsNamed}
-use Rattle.cyp_cells.proofs.CellFits.{HasKnown, IsPlain, fits-facts, known_term}
-use Rattle.cyp_cells.proofs.CellModels.{above, facts_true, number_in, same_from_value}
+use Rattle.cyp_cell_moves.proofs.CellTerms.{Decides-same_term, is_open-equation}
+use Rattle.cyp_cell_moves.proofs.CellFacts.{IsNamed}
+use Rattle.cyp_cell_moves.proofs.CellFits.{HasKnown, IsPlain, fits-facts, known_term}
+use Rattle.cyp_cell_moves.proofs.CellModels.{above, facts_true, number_in, same_from_value}
 
 -- ---- from the two parts of the test
 -- literals that fit and follow are shown

@@ -2,9 +2,9 @@
 use Rattle.std.proofs.Common.{◌≡◌, ◌∙◌, ℕ, [], ◌∷◌, ◌++◌, ◌==◌, List, Bool, not, IsTrue, refl, sym, ap, ⊎_elim}
 use Rattle.std.specs.List.{list_all}
 use Rattle.std.proofs.lemmas.Bool.{and_from, and_parts, both_ways, false_from_ne_true, not-true, not_from_false, or_cases}
-use Rattle.cyp_cells.proofs.Among.{among_left, among_right, list_any-append}
-use Rattle.cyp_cells.proofs.PlainCells.{IsPlain}
-use Rattle.cyp_cells.proofs.SmallCells.{IsSmall, is_small_equation}
+use Rattle.cyp_cell_moves.proofs.Among.{among_left, among_right, list_any-append}
+use Rattle.cyp_cell_moves.proofs.PlainCells.{IsPlain}
+use Rattle.cyp_cell_moves.proofs.SmallCells.{IsSmall, is_small_equation}
 use Rattle.cyp_cells.specs.CellMoves.{IsCells, is_named, is_small_cell}
 use Rattle.cyp_cells.specs.CellNormal.{address_numbers}
 use Rattle.cyp_cells.specs.Cells.{among, cell_numbers, cells_numbers, term_numbers}

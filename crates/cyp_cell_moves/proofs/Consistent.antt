@@ -8,8 +8,8 @@ use Rattle.cyp_cells.specs.declared.flat.FlatTerm.{FlatTerm}
 use Rattle.cyp_cells.specs.declared.flat.FlatTerm.TheVariants.{Named, Number}
 use Rattle.cyp_cells.specs.Cells.{among, cell_numbers, cells_numbers, same_term, term_numbers}
 use Rattle.cyp_cells.specs.CellMoves.{terms_differ, without_at}
-use Rattle.cyp_cells.proofs.Members.{AreAmong, among_left, among_right}
-use Rattle.cyp_cells.proofs.CellLists.{all_without, over_cell}
+use Rattle.cyp_cell_moves.proofs.Members.{AreAmong, among_left, among_right}
+use Rattle.cyp_cell_moves.proofs.CellLists.{all_without, over_cell}
 
 -- the addresses of cells, in order
 abbrev pub addresses : List FlatCell → List FlatTerm

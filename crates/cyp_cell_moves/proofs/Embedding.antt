@@ -3,8 +3,9 @@ use Rattle.std.proofs.Common.{◌≡◌, ◌∙◌, ℕ, [], ◌∷◌, ◌++◌
 use Rattle.std.proofs.lemmas.Bool.{cases_order, eq-eqb, le-ltb, lt-ltb, ne_eqb}
 use Rattle.std.proofs.lemmas.List.{map-append}
 use Rattle.std.specs.Ordering.{int_eq}
-use Rattle.cyp_cells.proofs.MapLaws.{filter_empty, flat_map-map, list_any-map, without_repeats-map}
-use Rattle.cyp_cells.specs.CellNormal.{FlatRenaming, same_equation}
+use Rattle.cyp_cell_moves.proofs.MapLaws.{filter_empty, flat_map-map, list_any-map, without_repeats-map}
+use Rattle.cyp_cells.specs.CellNormal.{same_equation}
+use Rattle.cyp_cells.specs.declared.flat.FlatRenaming.{FlatRenaming}
 use Rattle.cyp_cells.specs.Cells.{all_numbers, among, cell_numbers, cell_of, cells_numbers, equation_numbers, equation_of, equations_numbers, goal_of, int_var, node_of, once, positive_of, same_term, term_numbers, term_of}
 use Rattle.cyp_cells.specs.declared.flat.Flat.{Flat}
 use Rattle.cyp_cells.specs.declared.flat.FlatCell.{FlatCell}

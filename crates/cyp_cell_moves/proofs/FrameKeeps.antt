@@ -10,9 +10,9 @@ use Rattle.cyp_cells.specs.declared.flat.FlatTerm.{FlatTerm}
 use Rattle.cyp_cells.specs.declared.flat.FlatTerm.TheVariants.{Named, Number}
 use Rattle.cyp_cells.specs.Cells.{cell_numbers, cells_numbers, same_term, term_numbers}
 use Rattle.cyp_cells.specs.CellMoves.{IsCells, frame_at, has_existential, is_program_term, is_small, is_small_cell, may_equal, without_at, write_at}
-use Rattle.cyp_cells.proofs.Members.{AreAmong, among_left, among_parts, among_right, are_among_append}
-use Rattle.cyp_cells.proofs.CellLists.{all_at, all_set, all_without, has_named, numbers_at, numbers_set, numbers_without}
-use Rattle.cyp_cells.proofs.WellFormed.{IsRaw, IsWellFormed, apart_at, apart_from, is_small_equation, raw_from_well_formed, taken, well_formed_from_cells}
+use Rattle.cyp_cell_moves.proofs.Members.{AreAmong, among_left, among_parts, among_right, are_among_append}
+use Rattle.cyp_cell_moves.proofs.CellLists.{all_at, all_set, all_without, has_named, numbers_at, numbers_set, numbers_without}
+use Rattle.cyp_cell_moves.proofs.WellFormed.{IsRaw, IsWellFormed, apart_at, apart_from, is_small_equation, raw_from_well_formed, taken, well_formed_from_cells}
 
 -- a precondition whose numbers were all taken keeps existentials apart
 pub taken_pre : (f : Flat) (pre : List FlatCell) → AreAmong (cells_numbers pre) (taken f) → AreAmong (f.program ++ f.positive ++ cells_numbers pre) (taken f)

@@ -22,10 +22,10 @@ use Rattle.cyp_cells.specs.declared.flat.FlatEquation.{FlatEquation}
 use Rattle.cyp_cells.specs.declared.flat.FlatTerm.{FlatTerm}
 use Rattle.cyp_cells.specs.Cells.{all_numbers, cell_of, cells_numbers, equation_of, goal_of, node_of, positive_of, same_term, term_of, term_numbers}
 use Rattle.cyp_cells.specs.CellMoves.{IsCells, first_at, frame_at, has_existential, is_consistent, is_program_term, may_equal, without_at, write_at}
-use Rattle.cyp_cells.proofs.CellTerms.{is_open-equation, is_program_expr-term_of, has_exist-term_of}
-use Rattle.cyp_cells.proofs.CellFits.{HasKnown}
-use Rattle.cyp_cells.proofs.CellKnown.{BothKnown, known-post, known-pre}
-use Rattle.cyp_cells.proofs.CellShown.{may_equal-equation}
+use Rattle.cyp_cell_moves.proofs.CellTerms.{is_open-equation, is_program_expr-term_of, has_exist-term_of}
+use Rattle.cyp_cell_moves.proofs.CellFits.{HasKnown}
+use Rattle.cyp_cell_moves.proofs.CellKnown.{BothKnown, known-post, known-pre}
+use Rattle.cyp_cell_moves.proofs.CellShown.{may_equal-equation}
 
 -- ---- lists
 

@@ -5,11 +5,10 @@ use Rattle.std.specs.Bool.{IsTrue}
 use Rattle.std.specs.List.{list_all}
 use Rattle.cyp_cells.specs.declared.flat.Flat.{Flat}
 use Rattle.cyp_cells.specs.Cells.{all_numbers, among, cells_numbers, once}
-use Rattle.cyp_cells.specs.CellMoves.{above_all, new_number}
-use Rattle.cyp_cells.proofs.Members.{all_among}
-use Rattle.cyp_cells.proofs.Once.{among-once}
-use Rattle.cyp_cells.proofs.Parts.{post_among_all}
-use Rattle.cyp_cells.proofs.Used.{are_used}
+use Rattle.cyp_cells.specs.CellMoves.{above_all, new_number, are_used}
+use Rattle.cyp_cell_moves.proofs.Members.{all_among}
+use Rattle.cyp_cell_moves.proofs.Once.{among-once}
+use Rattle.cyp_cell_moves.proofs.Parts.{post_among_all}
 
 -- a number of a list is below the number above all
 pub lt-above_all : (v : ℕ) (vs : List ℕ) → among v vs ≡ true → v < above_all vs

@@ -4,18 +4,19 @@ use Rattle.std.specs.Bool.{IsTrue}
 use Rattle.std.specs.List.{list_all}
 use Rattle.cyp_cells.specs.declared.flat.Flat.{Flat}
 use Rattle.cyp_cells.specs.Cells.{all_numbers, among, cells_numbers}
-use Rattle.cyp_cells.specs.CellNormal.{FlatRenaming, is_flat_within, normal_flat}
-use Rattle.cyp_cells.specs.CellMoves.{IsCells}
-use Rattle.cyp_cells.proofs.Members.{all_among, all_from_among}
-use Rattle.cyp_cells.proofs.NormalKeeps.{normal_is, normal_well_formed}
-use Rattle.cyp_cells.proofs.Numbered.{normal_numbered}
-use Rattle.cyp_cells.proofs.Parts.{post_among_all}
-use Rattle.cyp_cells.proofs.Used.{are_used, normal_uses}
-use Rattle.cyp_cells.proofs.WellFormed.{IsRaw, IsWellFormed}
+use Rattle.cyp_cells.specs.CellNormal.{is_flat_within, normal_flat}
+use Rattle.cyp_cells.specs.declared.flat.FlatRenaming.{FlatRenaming}
+use Rattle.cyp_cells.specs.CellMoves.{IsCells, are_used}
+use Rattle.cyp_cell_moves.proofs.Members.{all_among, all_from_among}
+use Rattle.cyp_cell_moves.proofs.NormalKeeps.{normal_is, normal_well_formed}
+use Rattle.cyp_cell_moves.proofs.Numbered.{normal_numbered}
+use Rattle.cyp_cell_moves.proofs.Parts.{post_among_all}
+use Rattle.cyp_cell_moves.proofs.Used.{normal_uses}
+use Rattle.cyp_cell_moves.proofs.WellFormed.{IsRaw, IsWellFormed}
 
 -- the normal form of a raw goal is a goal of cells alone where it has no equation
-pub normal_keeps : (f : Flat) (m : FlatRenaming) → IsRaw f → normal_flat f ≡ Some m → m.flat.equations ≡ [] → IsCells m.flat
-normal_keeps f m r e none =
+pub normal_kept : (f : Flat) (m : FlatRenaming) → IsRaw f → normal_flat f ≡ Some m → m.flat.equations ≡ [] → IsCells m.flat
+normal_kept f m r e none =
     let w : IsWellFormed m.flat = normal_well_formed f m r e in
     record {
       named = w.named;
@@ -24,20 +25,12 @@ normal_keeps f m r e none =
       apart = w.apart;
       clear = none;
       within = subst (λ g. is_flat_within g ≡ true) (normal_is f m e).1 (normal_is f m e).0;
+      numbered = normal_numbered f m e;
+      used = normal_uses f m e none;
     }
 
--- a goal of cells alone whose existentials stand in the postcondition and whose numbers are below 32
-pub record IsKept (f : Flat) : Type 0 where
-  pub cells : IsCells f
-  pub used : IsTrue (are_used f)
-  pub numbered : IsTrue (list_all (λ v. ltb v 32) (all_numbers f))
-
--- the normal form of a raw goal is kept where it has no equation
-pub normal_kept : (f : Flat) (m : FlatRenaming) → IsRaw f → normal_flat f ≡ Some m → m.flat.equations ≡ [] → IsKept m.flat
-normal_kept f m r e none = record { cells = normal_keeps f m r e none; used = normal_uses f m e none; numbered = normal_numbered f m e }
-
 -- existentials are below 32 too
-pub exist_numbered : (f : Flat) → IsKept f → IsTrue (list_all (λ v. ltb v 32) f.exist)
+pub exist_numbered : (f : Flat) → IsCells f → IsTrue (list_all (λ v. ltb v 32) f.exist)
 exist_numbered f k =
     all_from_among (λ v. ltb v 32) f.exist (λ v m.
     all_among (λ u. ltb u 32) (all_numbers f) v k.numbered (post_among_all f v (all_among (λ u. among u (cells_numbers f.post)) f.exist v k.used m)))

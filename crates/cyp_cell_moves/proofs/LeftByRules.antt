@@ -8,18 +8,18 @@ use Rattle.cyp_cells.specs.declared.flat.Flat.{Flat}
 use Rattle.cyp_cells.specs.declared.flat.FlatCell.{FlatCell}
 use Rattle.cyp_cells.specs.declared.flat.FlatEquation.{FlatEquation}
 use Rattle.cyp_cells.specs.Cells.{all_numbers, once}
-use Rattle.cyp_cells.specs.CellNormal.{FlatRenaming, is_alike, normal_flat, rename_equation, same_equation, solve_flat}
+use Rattle.cyp_cells.specs.CellNormal.{is_alike, normal_flat, rename_equation, same_equation, solve_flat}
+use Rattle.cyp_cells.specs.declared.flat.FlatRenaming.{FlatRenaming}
 use Rattle.cyp_cells.specs.CellMoves.{IsCells, first_at, frame_at, is_consistent, read_at, write_at}
-use Rattle.cyp_cells.proofs.ClearCells.{apart_from_clear}
-use Rattle.cyp_cells.proofs.FrameKeeps.{frame_raw, write_raw}
-use Rattle.cyp_cells.proofs.Kept.{IsKept}
-use Rattle.cyp_cells.proofs.NormalConsistent.{frame_consistent, read_consistent, write_consistent}
-use Rattle.cyp_cells.proofs.NormalKeeps.{kept_flat, normal_is}
-use Rattle.cyp_cells.proofs.PlainCells.{IsPlain}
-use Rattle.cyp_cells.proofs.ReadKeeps.{read_at_is, read_raw}
-use Rattle.cyp_cells.proofs.RowOfCells.{LeavesRaw}
-use Rattle.cyp_cells.proofs.WellFormed.{IsRaw}
-use Rattle.cyp_cells.proofs.WritesOfCells.{write_by, write_here}
+use Rattle.cyp_cell_moves.proofs.ClearCells.{apart_from_clear}
+use Rattle.cyp_cell_moves.proofs.FrameKeeps.{frame_raw, write_raw}
+use Rattle.cyp_cell_moves.proofs.NormalConsistent.{frame_consistent, read_consistent, write_consistent}
+use Rattle.cyp_cell_moves.proofs.NormalKeeps.{kept_flat, normal_is}
+use Rattle.cyp_cell_moves.proofs.PlainCells.{IsPlain}
+use Rattle.cyp_cell_moves.proofs.ReadKeeps.{read_at_is, read_raw}
+use Rattle.cyp_cell_moves.proofs.RowOfCells.{LeavesRaw}
+use Rattle.cyp_cell_moves.proofs.WellFormed.{IsRaw}
+use Rattle.cyp_cell_moves.proofs.WritesOfCells.{write_by, write_here}
 
 -- a raw goal is a plain one
 pub plain_from_raw : (g : Flat) → IsRaw g → IsPlain g
@@ -35,9 +35,9 @@ frame_leaves f i c h = record {
   consistent = λ g e. frame_consistent f i (slice_get f.post 0) (slice_get f.pre i) g e h;
 }
 
-pub read_leaves : (f : Flat) (o : Option FlatCell) → IsKept f → is_consistent f ≡ true → LeavesRaw (read_at f o)
+pub read_leaves : (f : Flat) (o : Option FlatCell) → IsCells f → is_consistent f ≡ true → LeavesRaw (read_at f o)
 read_leaves f o k h = record {
-  raw = λ g e. read_raw f o g k.cells k.used e;
+  raw = λ g e. read_raw f o g k k.used e;
   consistent = λ g e. read_consistent f o g e ∙ h;
 }
 

@@ -14,7 +14,8 @@ use Rattle.cyp_cells.specs.declared.flat.FlatEquation.{FlatEquation}
 use Rattle.cyp_cells.specs.declared.flat.FlatTerm.{FlatTerm}
 use Rattle.cyp_cells.specs.declared.flat.FlatTerm.TheVariants.{Named, Number}
 use Rattle.cyp_cells.specs.Cells.{among, same_term, term_numbers}
-use Rattle.cyp_cells.specs.CellNormal.{Picked, Solution, is_alike, keep_behind, pick_by, pick_first, put_equation, same_equation, solution, solve_flat, solve_picked, solved_side_by, tidy_flat}
+use Rattle.cyp_cells.specs.CellNormal.{Picked, is_alike, keep_behind, pick_by, pick_first, put_equation, same_equation, solution, solve_flat, solve_picked, solved_side_by, tidy_flat}
+use Rattle.cyp_cells.specs.declared.solve.Solution.{Solution}
 
 -- ---- when solving ends
 

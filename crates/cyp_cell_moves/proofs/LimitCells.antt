@@ -1,9 +1,9 @@
 -- The limits of a node, at goals of cells alone.
 use Rattle.std.proofs.Common.{◌≡◌, ◌∙◌, ℕ, [], Bool, true, false, not, ◌&&◌, filter, length, nat_le, refl, ap, add-zero}
 use Rattle.std.proofs.lemmas.List.{length-map}
-use Rattle.cyp_cells.proofs.Counts.{sum_by-threes}
-use Rattle.cyp_cells.proofs.Embedding.{no_set_vars, node_vars-node_of}
-use Rattle.cyp_cells.proofs.MapLaws.{filter_full, flat_map-map_none}
+use Rattle.cyp_cell_moves.proofs.Counts.{sum_by-threes}
+use Rattle.cyp_cell_moves.proofs.Embedding.{no_set_vars, node_vars-node_of}
+use Rattle.cyp_cell_moves.proofs.MapLaws.{filter_full, flat_map-map_none}
 use Rattle.cyp_cells.specs.CellNormal.{flat_units, is_flat_within}
 use Rattle.cyp_cells.specs.Cells.{all_numbers, cell_of, equation_of, goal_of, int_var, node_of, once, positive_of}
 use Rattle.cyp_cells.specs.declared.flat.Flat.{Flat}

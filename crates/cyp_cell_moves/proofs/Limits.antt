@@ -12,8 +12,8 @@ use Rattle.cyp_cells.specs.declared.flat.FlatCell.{FlatCell}
 use Rattle.cyp_cells.specs.Cells.{all_numbers, once}
 use Rattle.cyp_cells.specs.CellNormal.{flat_units, is_flat_within}
 use Rattle.cyp_cells.specs.CellMoves.{IsCells, first_at, flat_moves, flat_row, frame_row, frame_rows, heap_moves, is_consistent, is_done, last_row, read_row, read_rows_from, write_at, write_focus, write_rows, write_to}
-use Rattle.cyp_cells.proofs.Members.{AreAmong}
-use Rattle.cyp_cells.proofs.Once.{length-once-le}
+use Rattle.cyp_cell_moves.proofs.Members.{AreAmong}
+use Rattle.cyp_cell_moves.proofs.Once.{length-once-le}
 
 -- the limits as bounds
 pub record IsWithin (f : Flat) : Type 0 where

@@ -11,24 +11,25 @@ use Rattle.cyp_step.specs.declared.rule.Rule.TheVariants.{ByEmp, ByFrame, ByInco
 use Rattle.cyp_cells.specs.declared.flat.Flat.{Flat}
 use Rattle.cyp_cells.specs.declared.flat.FlatCell.{FlatCell}
 use Rattle.cyp_cells.specs.declared.flat.FlatEquation.{FlatEquation}
-use Rattle.cyp_cells.specs.CellNormal.{FlatRenaming, normal_flat}
-use Rattle.cyp_cells.specs.CellMoves.{first_at, flat_moves, flat_row, frame_at, frame_row, frame_rows, heap_moves, is_consistent, is_done, last_row, read_at, read_row, read_rows_from, write_at, write_focus, write_rows, write_to}
-use Rattle.cyp_cells.proofs.FrameKeeps.{frame_raw, write_raw}
-use Rattle.cyp_cells.proofs.Kept.{IsKept, normal_kept}
-use Rattle.cyp_cells.proofs.ReadKeeps.{read_raw}
-use Rattle.cyp_cells.proofs.WellFormed.{IsRaw}
+use Rattle.cyp_cells.specs.CellNormal.{normal_flat}
+use Rattle.cyp_cells.specs.declared.flat.FlatRenaming.{FlatRenaming}
+use Rattle.cyp_cells.specs.CellMoves.{first_at, flat_moves, flat_row, frame_at, frame_row, frame_rows, heap_moves, is_consistent, is_done, last_row, read_at, read_row, read_rows_from, write_at, write_focus, write_rows, write_to, IsCells}
+use Rattle.cyp_cell_moves.proofs.FrameKeeps.{frame_raw, write_raw}
+use Rattle.cyp_cell_moves.proofs.Kept.{normal_kept}
+use Rattle.cyp_cell_moves.proofs.ReadKeeps.{read_raw}
+use Rattle.cyp_cell_moves.proofs.WellFormed.{IsRaw}
 
 -- the premises of a move are kept
 abbrev pub PremisesKept : AltOf Rule Flat → Type 0
-PremisesKept a = All IsKept a.premises
+PremisesKept a = All IsCells a.premises
 
 -- ---- one row
 
 -- the row of a normal form, by its equations
-row_of : (r : Rule) (m : FlatRenaming) (es : List FlatEquation) (a : AltOf Rule Flat) → m.flat.equations ≡ es → (es ≡ [] → IsKept m.flat)
+row_of : (r : Rule) (m : FlatRenaming) (es : List FlatEquation) (a : AltOf Rule Flat) → m.flat.equations ≡ es → (es ≡ [] → IsCells m.flat)
     → elim es [ [] ↦ Some (record { rule = r; cost = cost_of r; premises = m.flat ∷ [] }) | e ∷ rest ↦ None ] ≡ Some a → PremisesKept a
 row_of r m [] a is keeps e =
-    subst PremisesKept (same_Some (record { rule = r; cost = cost_of r; premises = m.flat ∷ [] }) a e) (All-cons IsKept m.flat [] (keeps refl) (All-nil IsKept))
+    subst PremisesKept (same_Some (record { rule = r; cost = cost_of r; premises = m.flat ∷ [] }) a e) (All-cons IsCells m.flat [] (keeps refl) (All-nil IsCells))
 row_of r m (x ∷ xs) a is keeps e = absurd (none-some a e)
 
 -- the row of a raw goal, by its normal form
@@ -44,17 +45,17 @@ row_keeps r None a raw e = absurd (none-some a e)
 row_keeps r (Some g) a raw e = row_from r g (normal_flat g) a (raw g refl) refl e
 
 -- a read keeps it
-pub read_row_keeps : (f : Flat) (i : ℕ) (a : AltOf Rule Flat) → IsKept f → read_row f i ≡ Some a → PremisesKept a
-read_row_keeps f i a k e = row_keeps (ByRead i) (read_at f (slice_get f.pre i)) a (λ g h. read_raw f (slice_get f.pre i) g k.cells k.used h) e
+pub read_row_keeps : (f : Flat) (i : ℕ) (a : AltOf Rule Flat) → IsCells f → read_row f i ≡ Some a → PremisesKept a
+read_row_keeps f i a k e = row_keeps (ByRead i) (read_at f (slice_get f.pre i)) a (λ g h. read_raw f (slice_get f.pre i) g k k.used h) e
 
 -- a frame keeps it
-pub frame_row_keeps : (f : Flat) (i : ℕ) (a : AltOf Rule Flat) → IsKept f → frame_row f i ≡ Some a → PremisesKept a
-frame_row_keeps f i a k e = row_keeps (ByFrame i) (frame_at f i (slice_get f.post 0) (slice_get f.pre i)) a (λ g h. frame_raw f i g k.cells h) e
+pub frame_row_keeps : (f : Flat) (i : ℕ) (a : AltOf Rule Flat) → IsCells f → frame_row f i ≡ Some a → PremisesKept a
+frame_row_keeps f i a k e = row_keeps (ByFrame i) (frame_at f i (slice_get f.post 0) (slice_get f.pre i)) a (λ g h. frame_raw f i g k h) e
 
 -- a write keeps it
-pub write_row_keeps : (f : Flat) (i : ℕ) (p q : FlatCell) (a : AltOf Rule Flat) → IsKept f → slice_get f.post 0 ≡ Some p → slice_get f.pre i ≡ Some q
+pub write_row_keeps : (f : Flat) (i : ℕ) (p q : FlatCell) (a : AltOf Rule Flat) → IsCells f → slice_get f.post 0 ≡ Some p → slice_get f.pre i ≡ Some q
     → flat_row (ByWrite i) (write_at f i p q) ≡ Some a → PremisesKept a
-write_row_keeps f i p q a k focus here e = row_keeps (ByWrite i) (write_at f i p q) a (λ g h. write_raw f i p q g k.cells focus here h) e
+write_row_keeps f i p q a k focus here e = row_keeps (ByWrite i) (write_at f i p q) a (λ g h. write_raw f i p q g k focus here h) e
 
 -- ---- lists of rows
 
@@ -74,7 +75,7 @@ all_from_option P (Some a) keeps = All-cons P a [] (keeps a refl) (All-nil P)
 
 -- a last move has no premise
 last_keeps : (r : Rule) → All PremisesKept (last_row r)
-last_keeps r = All-cons PremisesKept (record { rule = r; cost = cost_of r; premises = [] }) [] (All-nil IsKept) (All-nil PremisesKept)
+last_keeps r = All-cons PremisesKept (record { rule = r; cost = cost_of r; premises = [] }) [] (All-nil IsCells) (All-nil PremisesKept)
 
 -- the first read, or what is found behind it
 reads_step : (o : Option (AltOf Rule Flat)) (rest : List (AltOf Rule Flat)) → ((a : AltOf Rule Flat) → o ≡ Some a → PremisesKept a) → All PremisesKept rest
@@ -83,33 +84,33 @@ reads_step None rest keeps h = h
 reads_step (Some a) rest keeps h = All-cons PremisesKept a [] (keeps a refl) (All-nil PremisesKept)
 
 -- the reads keep it
-pub read_rows_keep : (f : Flat) (k left : ℕ) → IsKept f → All PremisesKept (read_rows_from f k left)
+pub read_rows_keep : (f : Flat) (k left : ℕ) → IsCells f → All PremisesKept (read_rows_from f k left)
 read_rows_keep f k zero h = All-nil PremisesKept
 read_rows_keep f k (suc left) h = reads_step (read_row f k) (read_rows_from f (suc k) left) (λ a e. read_row_keeps f k a h e) (read_rows_keep f (suc k) left h)
 
 -- the frames keep it
-pub frame_rows_keep : (f : Flat) → IsKept f → All PremisesKept (frame_rows f)
+pub frame_rows_keep : (f : Flat) → IsCells f → All PremisesKept (frame_rows f)
 frame_rows_keep f k = all_from_options PremisesKept (frame_row f) (count_from 0 (length f.pre)) (λ i a e. frame_row_keeps f i a k e)
 
 -- the write to a cell keeps it
-write_to_keeps : (f : Flat) (p : FlatCell) (i : ℕ) (o : Option FlatCell) → IsKept f → slice_get f.post 0 ≡ Some p → slice_get f.pre i ≡ o → All PremisesKept (write_to f p i o)
+write_to_keeps : (f : Flat) (p : FlatCell) (i : ℕ) (o : Option FlatCell) → IsCells f → slice_get f.post 0 ≡ Some p → slice_get f.pre i ≡ o → All PremisesKept (write_to f p i o)
 write_to_keeps f p i None k focus here = All-nil PremisesKept
 write_to_keeps f p i (Some q) k focus here =
     all_from_option PremisesKept (flat_row (ByWrite i) (write_at f i p q)) (λ a e. write_row_keeps f i p q a k focus here e)
 
 -- the write at a place keeps it
-write_place_keeps : (f : Flat) (p : FlatCell) (o : Option ℕ) → IsKept f → slice_get f.post 0 ≡ Some p
+write_place_keeps : (f : Flat) (p : FlatCell) (o : Option ℕ) → IsCells f → slice_get f.post 0 ≡ Some p
     → All PremisesKept (elim o [ None ↦ [] | Some i ↦ write_to f p i (slice_get f.pre i) ])
 write_place_keeps f p None k focus = All-nil PremisesKept
 write_place_keeps f p (Some i) k focus = write_to_keeps f p i (slice_get f.pre i) k focus refl
 
 -- the write of the focus keeps it
-write_focus_keeps : (f : Flat) (o : Option FlatCell) → IsKept f → slice_get f.post 0 ≡ o → All PremisesKept (write_focus f o)
+write_focus_keeps : (f : Flat) (o : Option FlatCell) → IsCells f → slice_get f.post 0 ≡ o → All PremisesKept (write_focus f o)
 write_focus_keeps f None k focus = All-nil PremisesKept
 write_focus_keeps f (Some p) k focus = write_place_keeps f p (first_at p.at 0 f.pre) k focus
 
 -- the writes keep it
-pub write_rows_keep : (f : Flat) → IsKept f → All PremisesKept (write_rows f)
+pub write_rows_keep : (f : Flat) → IsCells f → All PremisesKept (write_rows f)
 write_rows_keep f k = write_focus_keeps f (slice_get f.post 0) k refl
 
 -- reads alone if there are any, else the others
@@ -118,7 +119,7 @@ either_keeps [] ys h k = k
 either_keeps (x ∷ xs) ys h k = h
 
 -- what can be done with cells keeps it
-pub heap_moves_keep : (f : Flat) → IsKept f → All PremisesKept (heap_moves f)
+pub heap_moves_keep : (f : Flat) → IsCells f → All PremisesKept (heap_moves f)
 heap_moves_keep f k =
     either_keeps (read_rows_from f 0 (length f.pre)) (frame_rows f ++ write_rows f) (read_rows_keep f 0 (length f.pre) k)
     (All-append PremisesKept (frame_rows f) (write_rows f) (frame_rows_keep f k) (write_rows_keep f k))
@@ -131,5 +132,5 @@ moves_step true true ms h = last_keeps ByEmp
 moves_step true false ms h = h
 
 -- each premise of each move is kept
-pub moves_keep : (f : Flat) → IsKept f → All PremisesKept (flat_moves f)
+pub moves_keep : (f : Flat) → IsCells f → All PremisesKept (flat_moves f)
 moves_keep f k = moves_step (is_consistent f) (is_done f) (heap_moves f) (heap_moves_keep f k)

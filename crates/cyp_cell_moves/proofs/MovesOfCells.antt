@@ -28,20 +28,20 @@ use Rattle.cyp_cells.specs.declared.flat.Flat.{Flat}
 use Rattle.cyp_cells.specs.declared.flat.FlatCell.{FlatCell}
 use Rattle.cyp_cells.specs.declared.flat.FlatEquation.{FlatEquation}
 use Rattle.cyp_cells.specs.declared.flat.FlatTerm.{FlatTerm}
-use Rattle.cyp_cells.proofs.LeftByRules.{frame_leaves, normal_clear, plain_from_raw, read_clear, read_leaves, write_leaves}
+use Rattle.cyp_cell_moves.proofs.LeftByRules.{frame_leaves, normal_clear, plain_from_raw, read_clear, read_leaves, write_leaves}
 use Rattle.cyp_cells.specs.Cells.{cell_of, equation_of, goal_of, int_var, node_of, same_term}
-use Rattle.cyp_cells.specs.CellNormal.{FlatRenaming, normal_flat}
+use Rattle.cyp_cells.specs.CellNormal.{normal_flat}
+use Rattle.cyp_cells.specs.declared.flat.FlatRenaming.{FlatRenaming}
 use Rattle.cyp_cells.specs.CellMoves.{IsCells, first_at, flat_moves, flat_row, frame_at, frame_row, frame_rows, heap_moves, is_consistent, is_done, last_row, read_at, read_row, read_rows_from, write_at, write_focus, write_rows, write_to}
-use Rattle.cyp_cells.proofs.CellDead.{dead_not-clear, dead_not-inconsistent}
-use Rattle.cyp_cells.proofs.CellModels.{satisfiable-facts}
-use Rattle.cyp_cells.proofs.CellShown.{shown-nil}
-use Rattle.cyp_cells.proofs.ClearCells.{clear_from_cells}
-use Rattle.cyp_cells.proofs.Kept.{IsKept}
-use Rattle.cyp_cells.proofs.Limits.{few_moves}
-use Rattle.cyp_cells.proofs.ListedRows.{filter_map-places, filter_map_none, filter_map_one, least_allowed-none, of_kinds-append, of_kinds-rows}
-use Rattle.cyp_cells.proofs.PremisesOfCells.{one_renaming, premises_frame, premises_read, premises_write}
-use Rattle.cyp_cells.proofs.RowOfCells.{LeavesRaw, row-node_of, row_by, row_of}
-use Rattle.cyp_cells.proofs.WritesOfCells.{write_by, write_here}
+use Rattle.cyp_cell_moves.proofs.CellDead.{dead_not-clear, dead_not-inconsistent}
+use Rattle.cyp_cell_moves.proofs.CellModels.{satisfiable-facts}
+use Rattle.cyp_cell_moves.proofs.CellShown.{shown-nil}
+use Rattle.cyp_cell_moves.proofs.ClearCells.{clear_from_cells}
+use Rattle.cyp_cell_moves.proofs.Limits.{few_moves}
+use Rattle.cyp_cell_moves.proofs.ListedRows.{filter_map-places, filter_map_none, filter_map_one, least_allowed-none, of_kinds-append, of_kinds-rows}
+use Rattle.cyp_cell_moves.proofs.PremisesOfCells.{one_renaming, premises_frame, premises_read, premises_write}
+use Rattle.cyp_cell_moves.proofs.RowOfCells.{LeavesRaw, row-node_of, row_by, row_of}
+use Rattle.cyp_cell_moves.proofs.WritesOfCells.{write_by, write_here}
 
 -- the general alternative of one of cells alone
 abbrev pub alt_of : AltOf Rule Flat → AltOf Rule Node
@@ -77,12 +77,12 @@ end_by : Bool → List Row
 end_by b = elim b [ true ↦ last ByEmp ∷ [] | false ↦ [] ]
 
 length_cells : (cs : List FlatCell) → length (map cell_of cs) ≡ length cs
-length_cells cs = length-map cell_of cs
+length_cells cs = length-map cs cell_of
 
 end_rows : (f : Flat) → IsCells f → rows (node_of f) (ByEmp ∷ []) ≡ end_by (is_done f)
 unfolding end_by
 end_rows f c =
-    (λ k. tested ((length_cells f.pre k == 0) && (length_cells f.post k == 0) && (length-map int_var f.exist k == 0)) (shown_end k))
+    (λ k. tested ((length_cells f.pre k == 0) && (length_cells f.post k == 0) && (length-map f.exist int_var k == 0)) (shown_end k))
     ∙ tested_as (is_done f)
   where
     tested : Bool → Bool → List Row
@@ -97,21 +97,21 @@ end_rows f c =
 
 -- ---- reads
 
-read_premises : (f : Flat) (k : ℕ) (x : Option FlatRenaming) → IsKept f → option_and_then normal_flat (read_at f (slice_get f.pre k)) ≡ x
+read_premises : (f : Flat) (k : ℕ) (x : Option FlatRenaming) → IsCells f → option_and_then normal_flat (read_at f (slice_get f.pre k)) ≡ x
     → premises (node_of f) (ByRead k) ≡ option_map nodes_of (option_map one_renaming x)
 read_premises f k x h e =
-    ap (option_map nodes_of) (premises_read f k (clear_from_cells f h.cells) ∙ ap (option_map one_renaming) e)
+    ap (option_map nodes_of) (premises_read f k (clear_from_cells f h) ∙ ap (option_map one_renaming) e)
 
 -- no equation is left by a read
 read_left_clear : (f : Flat) (o : Option Flat) (m : FlatRenaming) → ((g : Flat) → o ≡ Some g → g.equations ≡ []) → option_and_then normal_flat o ≡ Some m → m.flat.equations ≡ []
 read_left_clear f None m h e = absurd (none-some m e)
 read_left_clear f (Some g) m h e = normal_clear g m (h g refl) e
 
+abbrev alt_by : ℕ → FlatRenaming → List FlatEquation → Option (AltOf Rule Flat)
+alt_by k m es = elim es [ [] ↦ Some (record { rule = ByRead k; cost = cost_of (ByRead k); premises = m.flat ∷ [] }) | e ∷ rest ↦ None ]
+
 abbrev read_row_by : ℕ → Option FlatRenaming → Option (AltOf Rule Flat)
-read_row_by k o = elim o [
-  | None ↦ None
-  | Some m ↦ elim m.flat.equations [ [] ↦ Some (record { rule = ByRead k; cost = cost_of (ByRead k); premises = m.flat ∷ [] }) | e ∷ es ↦ None ]
-]
+read_row_by k o = elim o [ None ↦ None | Some m ↦ alt_by k m m.flat.equations ]
 
 abbrev rows_by : Node → ℕ → Option (List Node) → List Rule → List Row
 rows_by n k o later = rows n (elim o [ Some ns ↦ ByRead k ∷ [] | None ↦ later ])
@@ -119,13 +119,10 @@ rows_by n k o later = rows n (elim o [ Some ns ↦ ByRead k ∷ [] | None ↦ la
 abbrev read_rows_by : Option (AltOf Rule Flat) → List (AltOf Rule Flat) → List (AltOf Rule Flat)
 read_rows_by o later = elim o [ Some a ↦ a ∷ [] | None ↦ later ]
 
-read_alt : (k : ℕ) (m : FlatRenaming) (es : List FlatEquation) → es ≡ []
-    → elim es [ [] ↦ Some (record { rule = ByRead k; cost = cost_of (ByRead k); premises = m.flat ∷ [] }) | e ∷ rest ↦ None ]
-    ≡ Some (record { rule = ByRead k; cost = cost_of (ByRead k); premises = m.flat ∷ [] })
-read_alt k m es e =
-    ap (λ (xs : List FlatEquation). elim xs [ [] ↦ Some (record { rule = ByRead k; cost = cost_of (ByRead k); premises = m.flat ∷ [] }) | e ∷ rest ↦ None ]) e
+read_alt : (k : ℕ) (m : FlatRenaming) (es : List FlatEquation) → es ≡ [] → alt_by k m es ≡ Some (record { rule = ByRead k; cost = cost_of (ByRead k); premises = m.flat ∷ [] })
+read_alt k m es e = ap (alt_by k m) e
 
-read_here : (f : Flat) (k : ℕ) (x : Option FlatRenaming) (later : List Rule) (rest : List (AltOf Rule Flat)) → IsKept f
+read_here : (f : Flat) (k : ℕ) (x : Option FlatRenaming) (later : List Rule) (rest : List (AltOf Rule Flat)) → IsCells f
     → row (node_of f) (ByRead k) ≡ option_map row_of (read_row_by k x)
     → ((m : FlatRenaming) → x ≡ Some m → m.flat.equations ≡ []) → rows (node_of f) later ≡ map row_of rest
     → rows_by (node_of f) k (option_map nodes_of (option_map one_renaming x)) later ≡ map row_of (read_rows_by (read_row_by k x) rest)
@@ -134,7 +131,7 @@ read_here f k (Some m) later rest h r clear e =
     let alt = read_alt k m m.flat.equations (clear m refl) in
     ap (λ o. cons_option o []) (r ∙ ap (option_map row_of) alt) ∙ ap (λ o. map row_of (read_rows_by o rest)) (sym alt)
 
-read_rows : (f : Flat) (k left : ℕ) → IsKept f → is_consistent f ≡ true
+read_rows : (f : Flat) (k left : ℕ) → IsCells f → is_consistent f ≡ true
     → rows (node_of f) (least_allowed (node_of f) (map ByRead (count_from k left))) ≡ map row_of (read_rows_from f k left)
 read_rows f k zero h c = refl
 read_rows f k (suc left) h c =
@@ -142,30 +139,30 @@ read_rows f k (suc left) h c =
     let later : List Rule = least_allowed (node_of f) (map ByRead (count_from (suc k) left)) in
     ap (λ p. rows_by (node_of f) k p later) (read_premises f k (option_and_then normal_flat o) h refl)
     ∙ read_here f k (option_and_then normal_flat o) later (read_rows_from f (suc k) left) h
-    (row-node_of (node_of f) (ByRead k) o (read_leaves f (slice_get f.pre k) h c) (premises_read f k (clear_from_cells f h.cells)))
-    (λ m e. read_left_clear f o m (λ g r. read_clear f (slice_get f.pre k) g h.cells.clear r) e)
+    (row-node_of (node_of f) (ByRead k) o (read_leaves f (slice_get f.pre k) h c) (premises_read f k (clear_from_cells f h)))
+    (λ m e. read_left_clear f o m (λ g r. read_clear f (slice_get f.pre k) g h.clear r) e)
     (read_rows f (suc k) left h c)
 
 -- ---- frames and writes
 
-frames : (f : Flat) → IsKept f → is_consistent f ≡ true → (is : List ℕ) → rows (node_of f) (map ByFrame is) ≡ map row_of (filter_map (frame_row f) is)
+frames : (f : Flat) → IsCells f → is_consistent f ≡ true → (is : List ℕ) → rows (node_of f) (map ByFrame is) ≡ map row_of (filter_map (frame_row f) is)
 frames f h c is =
     filter_map-places row_of ByFrame (row (node_of f)) (frame_row f)
     (λ i.
-    let leaves = frame_leaves f i h.cells c in
+    let leaves = frame_leaves f i h c in
     row-node_of (node_of f) (ByFrame i) (frame_at f i (slice_get f.post 0) (slice_get f.pre i)) leaves
-    (premises_frame f i h.cells c (λ g e. plain_from_raw g (leaves.raw g e)))) is
+    (premises_frame f i h c (λ g e. plain_from_raw g (leaves.raw g e)))) is
 
 abbrev write_row : Flat → ℕ → Option (AltOf Rule Flat)
 write_row f i = flat_row (ByWrite i) (write_by f i (slice_get f.post 0) (slice_get f.pre i))
 
-writes : (f : Flat) → IsKept f → is_consistent f ≡ true → (is : List ℕ) → rows (node_of f) (map ByWrite is) ≡ map row_of (filter_map (write_row f) is)
+writes : (f : Flat) → IsCells f → is_consistent f ≡ true → (is : List ℕ) → rows (node_of f) (map ByWrite is) ≡ map row_of (filter_map (write_row f) is)
 writes f h c is =
     filter_map-places row_of ByWrite (row (node_of f)) (write_row f)
     (λ i.
-    let leaves = write_leaves f i h.cells c in
+    let leaves = write_leaves f i h c in
     row-node_of (node_of f) (ByWrite i) (write_by f i (slice_get f.post 0) (slice_get f.pre i)) leaves
-    (premises_write f i h.cells c (λ g e. plain_from_raw g (leaves.raw g e)))) is
+    (premises_write f i h c (λ g e. plain_from_raw g (leaves.raw g e)))) is
 
 -- the first place at an address is within the list
 first_at_by : (k j n : ℕ) (b : Bool) (later : Option ℕ) → elim b [ true ↦ Some k | false ↦ later ] ≡ Some j → (later ≡ Some j → (suc k ≤ j) × (j < suc k + n)) → (k ≤ j) × (j < k + suc n)

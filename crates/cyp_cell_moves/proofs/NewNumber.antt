@@ -1,8 +1,8 @@
 -- The number of a new variable, at goals of cells alone.
 use Rattle.std.proofs.Common.{◌≡◌, ◌∙◌, ℕ, ◌<◌, [], ◌∷◌, ◌==◌, List, IsTrue, arith, false, map, max, suc, refl, ap, ⊎_elim}
 use Rattle.std.proofs.lemmas.Bool.{eqb-true, false≢true, ne_eqb, or_cases}
-use Rattle.cyp_cells.proofs.Among.{among-once}
-use Rattle.cyp_cells.proofs.Embedding.{node_vars-node_of}
+use Rattle.cyp_cell_moves.proofs.Among.{among-once}
+use Rattle.cyp_cell_moves.proofs.Embedding.{node_vars-node_of}
 use Rattle.cyp_cells.specs.CellMoves.{above_all, new_number}
 use Rattle.cyp_cells.specs.Cells.{all_numbers, among, int_var, node_of, once}
 use Rattle.cyp_cells.specs.declared.flat.Flat.{Flat}

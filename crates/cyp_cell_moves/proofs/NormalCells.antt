@@ -1,14 +1,14 @@
 -- The normal form of a goal of cells alone is the general one.
 use Rattle.std.proofs.Common.{◌≡◌, ◌∙◌, List, Option, None, Some, IsTrue, cond, length, map, option_and_then, option_map, ap}
 use Rattle.std.specs.List.{list_all}
-use Rattle.cyp_cells.proofs.Embedding.{renaming_of}
-use Rattle.cyp_cells.proofs.LimitCells.{is_within_limits-node_of}
-use Rattle.cyp_cells.proofs.MapLaws.{at_cond}
-use Rattle.cyp_cells.proofs.NumberCells.{renumber-node_of}
-use Rattle.cyp_cells.proofs.PlainCells.{IsPlain}
-use Rattle.cyp_cells.proofs.PruneCells.{prune-node_of}
-use Rattle.cyp_cells.proofs.SolvedCells.{plain-solve_flat, solve-node_of}
-use Rattle.cyp_cells.proofs.TidyCells.{tidy_node-node_of}
+use Rattle.cyp_cell_moves.proofs.Embedding.{renaming_of}
+use Rattle.cyp_cell_moves.proofs.LimitCells.{is_within_limits-node_of}
+use Rattle.cyp_cell_moves.proofs.MapLaws.{at_cond}
+use Rattle.cyp_cell_moves.proofs.NumberCells.{renumber-node_of}
+use Rattle.cyp_cell_moves.proofs.PlainCells.{IsPlain}
+use Rattle.cyp_cell_moves.proofs.PruneCells.{prune-node_of}
+use Rattle.cyp_cell_moves.proofs.SolvedCells.{plain-solve_flat, solve-node_of}
+use Rattle.cyp_cell_moves.proofs.TidyCells.{tidy_node-node_of}
 use Rattle.cyp_cells.specs.CellMoves.{is_named}
 use Rattle.cyp_cells.specs.CellNormal.{finish_flat, is_flat_within, normal_flat, number_flat, prune_flat, solve_flat, tidy_flat}
 use Rattle.cyp_cells.specs.Cells.{int_var, node_of}

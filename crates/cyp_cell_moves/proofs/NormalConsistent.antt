@@ -8,20 +8,20 @@ use Rattle.cyp_cells.specs.declared.flat.FlatCell.{FlatCell}
 use Rattle.cyp_cells.specs.declared.flat.FlatTerm.{FlatTerm}
 use Rattle.cyp_cells.specs.declared.flat.FlatTerm.TheVariants.{Named, Number}
 use Rattle.cyp_cells.specs.Cells.{all_numbers, among, cells_numbers, once, same_term, term_numbers}
-use Rattle.cyp_cells.specs.CellNormal.{FlatRenaming, normal_flat, put_term, rename_term, solve_flat}
-use Rattle.cyp_cells.specs.CellMoves.{IsCells, frame_at, is_consistent, new_number, read_at, terms_differ, write_at}
-use Rattle.cyp_cells.proofs.Members.{AreAmong}
-use Rattle.cyp_cells.proofs.Consistent.{addresses, addresses-set, differ_over, differ_without, renamed_by, same_renamed}
-use Rattle.cyp_cells.proofs.FrameKeeps.{IsFrame, frame_at_is, frame_raw, write_at_is, write_raw}
-use Rattle.cyp_cells.proofs.FreshNumber.{new_number_new}
-use Rattle.cyp_cells.proofs.NormalKeeps.{kept_flat, normal_is}
-use Rattle.cyp_cells.proofs.NormalLeftover.{same_places}
-use Rattle.cyp_cells.proofs.Once.{among-once}
-use Rattle.cyp_cells.proofs.Parts.{pre_among_all}
-use Rattle.cyp_cells.proofs.ReadKeeps.{read_at_is, read_flat, read_raw}
-use Rattle.cyp_cells.proofs.SolvingKeeps.{IsSolved, solving_keeps}
-use Rattle.cyp_cells.proofs.Used.{are_used}
-use Rattle.cyp_cells.proofs.WellFormed.{IsRaw}
+use Rattle.cyp_cells.specs.CellNormal.{normal_flat, put_term, rename_term, solve_flat}
+use Rattle.cyp_cells.specs.declared.flat.FlatRenaming.{FlatRenaming}
+use Rattle.cyp_cells.specs.CellMoves.{IsCells, frame_at, is_consistent, new_number, read_at, terms_differ, write_at, are_used}
+use Rattle.cyp_cell_moves.proofs.Members.{AreAmong}
+use Rattle.cyp_cell_moves.proofs.Consistent.{addresses, addresses-set, differ_over, differ_without, renamed_by, same_renamed}
+use Rattle.cyp_cell_moves.proofs.FrameKeeps.{IsFrame, frame_at_is, frame_raw, write_at_is, write_raw}
+use Rattle.cyp_cell_moves.proofs.FreshNumber.{new_number_new}
+use Rattle.cyp_cell_moves.proofs.NormalKeeps.{kept_flat, normal_is}
+use Rattle.cyp_cell_moves.proofs.NormalLeftover.{same_places}
+use Rattle.cyp_cell_moves.proofs.Once.{among-once}
+use Rattle.cyp_cell_moves.proofs.Parts.{pre_among_all}
+use Rattle.cyp_cell_moves.proofs.ReadKeeps.{read_at_is, read_flat, read_raw}
+use Rattle.cyp_cell_moves.proofs.SolvingKeeps.{IsSolved, solving_keeps}
+use Rattle.cyp_cell_moves.proofs.WellFormed.{IsRaw}
 
 -- a raw goal's addresses differ exactly if those of its normal form do
 pub normal_consistent : (f : Flat) (m : FlatRenaming) → IsRaw f → normal_flat f ≡ Some m → is_consistent m.flat ≡ is_consistent f

@@ -7,15 +7,16 @@ use Rattle.cyp_cells.specs.declared.flat.Flat.{Flat}
 use Rattle.cyp_cells.specs.declared.flat.FlatTerm.{FlatTerm}
 use Rattle.cyp_cells.specs.declared.flat.FlatTerm.TheVariants.{Named, Number}
 use Rattle.cyp_cells.specs.Cells.{all_numbers, among, cells_numbers, equations_numbers, once}
-use Rattle.cyp_cells.specs.CellNormal.{FlatRenaming, address_numbers, is_flat_within, live_numbers, normal_flat, number_flat, only, place_in, prune_flat, rename_flat, rename_term, solve_flat, tidy_flat}
+use Rattle.cyp_cells.specs.CellNormal.{address_numbers, is_flat_within, live_numbers, normal_flat, number_flat, only, place_in, prune_flat, rename_flat, rename_term, solve_flat, tidy_flat}
+use Rattle.cyp_cells.specs.declared.flat.FlatRenaming.{FlatRenaming}
 use Rattle.cyp_cells.specs.CellMoves.{is_named, is_small}
-use Rattle.cyp_cells.proofs.Members.{AreAmong, all_among, all_from_among, among_filter, among_left, among_right, are_among_append}
-use Rattle.cyp_cells.proofs.CellLists.{named_over, small_over}
-use Rattle.cyp_cells.proofs.Once.{among-once, among-with_all_new}
-use Rattle.cyp_cells.proofs.Parts.{addresses_among_cells, append_renamed, cells_numbers-renamed, positive_among_all, pre_among_all, program_among_all}
-use Rattle.cyp_cells.proofs.Renaming.{among_renamed_all}
-use Rattle.cyp_cells.proofs.SolvingKeeps.{IsSolved, solving_keeps}
-use Rattle.cyp_cells.proofs.WellFormed.{IsRaw, IsWellFormed, apart_at, apart_from, taken}
+use Rattle.cyp_cell_moves.proofs.Members.{AreAmong, all_among, all_from_among, among_filter, among_left, among_right, are_among_append}
+use Rattle.cyp_cell_moves.proofs.CellLists.{named_over, small_over}
+use Rattle.cyp_cell_moves.proofs.Once.{among-once, among-with_all_new}
+use Rattle.cyp_cell_moves.proofs.Parts.{addresses_among_cells, append_renamed, cells_numbers-renamed, positive_among_all, pre_among_all, program_among_all}
+use Rattle.cyp_cell_moves.proofs.Renaming.{among_renamed_all}
+use Rattle.cyp_cell_moves.proofs.SolvingKeeps.{IsSolved, solving_keeps}
+use Rattle.cyp_cell_moves.proofs.WellFormed.{IsRaw, IsWellFormed, apart_at, apart_from, taken}
 
 -- numbers of three lists joined are among numbers of three others joined
 taken_among : (xs ys zs vs : List ℕ) → AreAmong xs vs → AreAmong ys vs → AreAmong zs vs → AreAmong (xs ++ ys ++ zs) vs

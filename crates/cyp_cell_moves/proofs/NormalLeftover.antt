@@ -7,15 +7,16 @@ use Rattle.cyp_cells.specs.declared.flat.FlatEquation.{FlatEquation}
 use Rattle.cyp_cells.specs.declared.flat.FlatTerm.{FlatTerm}
 use Rattle.cyp_cells.specs.declared.flat.FlatTerm.TheVariants.{Named, Number}
 use Rattle.cyp_cells.specs.Cells.{all_numbers, among, cells_numbers, equation_numbers, equations_numbers, once, same_term, term_numbers}
-use Rattle.cyp_cells.specs.CellNormal.{FlatRenaming, is_alike, normal_flat, place_in, rename_equation, rename_term, solve_flat}
+use Rattle.cyp_cells.specs.CellNormal.{is_alike, normal_flat, place_in, rename_equation, rename_term, solve_flat}
+use Rattle.cyp_cells.specs.declared.flat.FlatRenaming.{FlatRenaming}
 use Rattle.cyp_cells.specs.CellMoves.{has_existential}
-use Rattle.cyp_cells.proofs.Members.{AreAmong, among_filter, among_left, among_right}
-use Rattle.cyp_cells.proofs.Consistent.{renamed_by, same_renamed}
-use Rattle.cyp_cells.proofs.Leftover.{is_leftover, solving_ends, tidy_leftover}
-use Rattle.cyp_cells.proofs.NormalKeeps.{kept_flat, normal_is}
-use Rattle.cyp_cells.proofs.Once.{among-once}
-use Rattle.cyp_cells.proofs.Parts.{equations_among_all}
-use Rattle.cyp_cells.proofs.Renaming.{among_renamed, renamed_once}
+use Rattle.cyp_cell_moves.proofs.Members.{AreAmong, among_filter, among_left, among_right}
+use Rattle.cyp_cell_moves.proofs.Consistent.{renamed_by, same_renamed}
+use Rattle.cyp_cell_moves.proofs.Leftover.{is_leftover, solving_ends, tidy_leftover}
+use Rattle.cyp_cell_moves.proofs.NormalKeeps.{kept_flat, normal_is}
+use Rattle.cyp_cell_moves.proofs.Once.{among-once}
+use Rattle.cyp_cell_moves.proofs.Parts.{equations_among_all}
+use Rattle.cyp_cell_moves.proofs.Renaming.{among_renamed, renamed_once}
 
 -- ---- fewer existentials
 

@@ -2,9 +2,9 @@
 use Rattle.std.proofs.Common.{◌≡◌, ◌∙◌, ℕ, [], ◌∷◌, ◌++◌, ◌==◌, List, Bool, true, false, cond, not, Some, Option, IsTrue, map, pos, refl, sym, ap, suc}
 use Rattle.std.specs.List.{list_all}
 use Rattle.std.proofs.lemmas.Bool.{and_parts, eqb-false, eqb-true, false≢true, ne_eqb}
-use Rattle.cyp_cells.proofs.Among.{all_among_once, list_all-flat_map, list_all_parts}
-use Rattle.cyp_cells.proofs.Embedding.{node_vars-node_of}
-use Rattle.cyp_cells.proofs.MapLaws.{filter_full, map-map, map-map_when}
+use Rattle.cyp_cell_moves.proofs.Among.{all_among_once, list_all-flat_map, list_all_parts}
+use Rattle.cyp_cell_moves.proofs.Embedding.{node_vars-node_of}
+use Rattle.cyp_cell_moves.proofs.MapLaws.{filter_full, map-map, map-map_when}
 use Rattle.cyp_cells.specs.CellNormal.{number_flat, place_from, place_in, rename_cell, rename_equation, rename_flat, rename_term}
 use Rattle.cyp_cells.specs.Cells.{all_numbers, among, cell_numbers, cell_of, cells_numbers, equation_numbers, equation_of, equations_numbers, int_var, node_of, once, positive_of, term_numbers, term_of}
 use Rattle.cyp_cells.specs.declared.flat.Flat.{Flat}

@@ -8,13 +8,14 @@ use Rattle.std.specs.List.{list_all}
 use Rattle.cyp_term.specs.Terms.{with_new, with_all_new}
 use Rattle.cyp_cells.specs.declared.flat.Flat.{Flat}
 use Rattle.cyp_cells.specs.Cells.{all_numbers, among, once}
-use Rattle.cyp_cells.specs.CellNormal.{FlatRenaming, normal_flat, number_flat, place_in}
-use Rattle.cyp_cells.proofs.Members.{AreAmong, all_from_among}
-use Rattle.cyp_cells.proofs.Limits.{IsWithin, within_limits}
-use Rattle.cyp_cells.proofs.NormalKeeps.{kept_flat, normal_is}
-use Rattle.cyp_cells.proofs.Once.{among-once}
-use Rattle.cyp_cells.proofs.Parts.{all_numbers-renamed}
-use Rattle.cyp_cells.proofs.Renaming.{among_renamed, place_in-lt}
+use Rattle.cyp_cells.specs.CellNormal.{normal_flat, number_flat, place_in}
+use Rattle.cyp_cells.specs.declared.flat.FlatRenaming.{FlatRenaming}
+use Rattle.cyp_cell_moves.proofs.Members.{AreAmong, all_from_among}
+use Rattle.cyp_cell_moves.proofs.Limits.{IsWithin, within_limits}
+use Rattle.cyp_cell_moves.proofs.NormalKeeps.{kept_flat, normal_is}
+use Rattle.cyp_cell_moves.proofs.Once.{among-once}
+use Rattle.cyp_cell_moves.proofs.Parts.{all_numbers-renamed}
+use Rattle.cyp_cell_moves.proofs.Renaming.{among_renamed, place_in-lt}
 
 -- the numbers are equal
 abbrev same_number : ℕ → ℕ → Bool

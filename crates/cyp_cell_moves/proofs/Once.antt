@@ -11,7 +11,7 @@ use Rattle.std.specs.Cmp.{IsEquivalence}
 use Rattle.std.specs.List.{list_any, IsDistinct}
 use Rattle.cyp_term.specs.Terms.{with_new, with_all_new, without_repeats}
 use Rattle.cyp_cells.specs.Cells.{among, once}
-use Rattle.cyp_cells.proofs.Members.{AreAmong}
+use Rattle.cyp_cell_moves.proofs.Members.{AreAmong}
 
 -- nothing more to pass
 or_false : (b : Bool) → (b || false) ≡ b

@@ -9,8 +9,8 @@ use Rattle.cyp_cells.specs.declared.flat.FlatTerm.{FlatTerm}
 use Rattle.cyp_cells.specs.declared.flat.FlatTerm.TheVariants.{Named, Number}
 use Rattle.cyp_cells.specs.Cells.{all_numbers, cell_numbers, cells_numbers, equation_numbers, equations_numbers, term_numbers}
 use Rattle.cyp_cells.specs.CellNormal.{address_numbers, place_in, rename_cell, rename_equation, rename_flat, rename_term}
-use Rattle.cyp_cells.proofs.Members.{AreAmong, among_left, among_right, among_parts}
-use Rattle.cyp_cells.proofs.CellLists.{numbers_renamed}
+use Rattle.cyp_cell_moves.proofs.Members.{AreAmong, among_left, among_right, among_parts}
+use Rattle.cyp_cell_moves.proofs.CellLists.{numbers_renamed}
 
 -- ---- the parts of all numbers
 

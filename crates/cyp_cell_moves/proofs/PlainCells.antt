@@ -3,12 +3,13 @@ use Rattle.std.proofs.Common.{◌≡◌, ◌∙◌, ℕ, [], ◌∷◌, ◌++◌
 use Rattle.std.specs.List.{list_all}
 use Rattle.std.proofs.lemmas.Bool.{and_from, and_parts, not-true, or_parts}
 use Rattle.std.proofs.lemmas.Option.{cond_some, none-some, same_Some}
-use Rattle.cyp_cells.proofs.Among.{list_all_at, list_any-append}
-use Rattle.cyp_cells.proofs.MapLaws.{list_all-map}
-use Rattle.cyp_cells.proofs.PutCells.{apply_term-term_of, put_for}
-use Rattle.cyp_cells.proofs.SmallCells.{IsSmall, is_small_equation, small-put_flat}
+use Rattle.cyp_cell_moves.proofs.Among.{list_all_at, list_any-append}
+use Rattle.cyp_cell_moves.proofs.MapLaws.{list_all-map}
+use Rattle.cyp_cell_moves.proofs.PutCells.{apply_term-term_of, put_for}
+use Rattle.cyp_cell_moves.proofs.SmallCells.{IsSmall, is_small_equation, small-put_flat}
 use Rattle.cyp_cells.specs.CellMoves.{is_named, is_small}
-use Rattle.cyp_cells.specs.CellNormal.{Picked, Solution, address_numbers, keep_behind, pick_by, pick_first, put_cell, put_term, solution, solve_picked, solved_side_by}
+use Rattle.cyp_cells.specs.CellNormal.{Picked, address_numbers, keep_behind, pick_by, pick_first, put_cell, put_term, solution, solve_picked, solved_side_by}
+use Rattle.cyp_cells.specs.declared.solve.Solution.{Solution}
 use Rattle.cyp_cells.specs.Cells.{among, positive_of, same_term, term_numbers, term_of}
 use Rattle.cyp_cells.specs.declared.flat.Flat.{Flat}
 use Rattle.cyp_cells.specs.declared.flat.FlatCell.{FlatCell}

@@ -17,19 +17,20 @@ use Rattle.cyp_cells.specs.declared.flat.FlatCell.{FlatCell}
 use Rattle.cyp_cells.specs.declared.flat.FlatTerm.{FlatTerm}
 use Rattle.cyp_cells.specs.declared.flat.FlatTerm.TheVariants.{Named, Number}
 use Rattle.cyp_cells.specs.Cells.{among, cell_of, goal_of, node_of, term_of}
-use Rattle.cyp_cells.specs.CellNormal.{FlatRenaming, normal_flat}
+use Rattle.cyp_cells.specs.CellNormal.{normal_flat}
+use Rattle.cyp_cells.specs.declared.flat.FlatRenaming.{FlatRenaming}
 use Rattle.cyp_cells.specs.CellMoves.{IsCells, frame_at, is_consistent, is_program_term, occurrences, read_at, read_content}
-use Rattle.cyp_cells.proofs.CellTerms.{is_program_expr-term_of}
-use Rattle.cyp_cells.proofs.FramesOfCells.{raw_frame-node_of}
-use Rattle.cyp_cells.proofs.WritesOfCells.{raws_write-node_of, write_by}
-use Rattle.cyp_cells.proofs.Embedding.{renaming_of}
-use Rattle.cyp_cells.proofs.NormalCells.{normal_of_flat}
-use Rattle.cyp_cells.proofs.PlainCells.{IsPlain}
-use Rattle.cyp_cells.proofs.SmallCells.{wide_node-node_of}
-use Rattle.cyp_cells.proofs.ClearCells.{IsClear}
-use Rattle.cyp_cells.proofs.ReadCells.{raw_read-cell_of, read_flat, read_node}
-use Rattle.cyp_cells.proofs.ReadNormal.{normal_of_read}
-use Rattle.cyp_cells.proofs.ReadRule.{occurs_elsewhere-goal_of, wide_node-read_node}
+use Rattle.cyp_cell_moves.proofs.CellTerms.{is_program_expr-term_of}
+use Rattle.cyp_cell_moves.proofs.FramesOfCells.{raw_frame-node_of}
+use Rattle.cyp_cell_moves.proofs.WritesOfCells.{raws_write-node_of, write_by}
+use Rattle.cyp_cell_moves.proofs.Embedding.{renaming_of}
+use Rattle.cyp_cell_moves.proofs.NormalCells.{normal_of_flat}
+use Rattle.cyp_cell_moves.proofs.PlainCells.{IsPlain}
+use Rattle.cyp_cell_moves.proofs.SmallCells.{wide_node-node_of}
+use Rattle.cyp_cell_moves.proofs.ClearCells.{IsClear}
+use Rattle.cyp_cell_moves.proofs.ReadCells.{raw_read-cell_of, read_flat, read_node}
+use Rattle.cyp_cell_moves.proofs.ReadNormal.{normal_of_read}
+use Rattle.cyp_cell_moves.proofs.ReadRule.{occurs_elsewhere-goal_of, wide_node-read_node}
 
 abbrev pub one_renaming : FlatRenaming → List Renaming
 one_renaming m = renaming_of m ∷ []

@@ -1,7 +1,7 @@
 -- Pruning, at goals of cells alone.
 use Rattle.std.proofs.Common.{◌≡◌, ◌∙◌, ℕ, [], ◌∷◌, ◌++◌, ◌==◌, List, Bool, true, false, cond, ◌||◌, filter, length, map, refl, ap, append-nil, suc, zero}
-use Rattle.cyp_cells.proofs.Embedding.{both_vars, chunks_vars-cell_of, joined, lits_vars-equation_of, lits_vars-positive_of, var_in-int_var}
-use Rattle.cyp_cells.proofs.MapLaws.{filter-map, without_repeats-map}
+use Rattle.cyp_cell_moves.proofs.Embedding.{both_vars, chunks_vars-cell_of, joined, lits_vars-equation_of, lits_vars-positive_of, var_in-int_var}
+use Rattle.cyp_cell_moves.proofs.MapLaws.{filter-map, without_repeats-map}
 use Rattle.cyp_cells.specs.CellNormal.{live_numbers, only, prune_flat}
 use Rattle.cyp_cells.specs.Cells.{among, cell_of, cells_numbers, equation_of, equations_numbers, int_var, node_of, positive_of}
 use Rattle.cyp_cells.specs.declared.flat.Flat.{Flat}

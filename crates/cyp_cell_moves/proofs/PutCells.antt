@@ -1,8 +1,8 @@
 -- A variable by a term: the substitution in the node is what is put in for it.
 use Rattle.std.proofs.Common.{◌≡◌, ◌∙◌, ℕ, ◌==◌, List, Bool, true, false, cond, ◌||◌, None, Some, IsTrue, map, refl, ap}
-use Rattle.cyp_cells.proofs.Embedding.{plus-term_of}
-use Rattle.cyp_cells.proofs.MapLaws.{map-map}
-use Rattle.cyp_cells.proofs.SmallCells.{IsSmall, wide_node-node_of, wide_term-term_of, small-put_flat}
+use Rattle.cyp_cell_moves.proofs.Embedding.{plus-term_of}
+use Rattle.cyp_cell_moves.proofs.MapLaws.{map-map}
+use Rattle.cyp_cell_moves.proofs.SmallCells.{IsSmall, wide_node-node_of, wide_term-term_of, small-put_flat}
 use Rattle.cyp_cells.specs.CellMoves.{is_small}
 use Rattle.cyp_cells.specs.CellNormal.{put_cell, put_equation, put_flat, put_term}
 use Rattle.cyp_cells.specs.Cells.{cell_of, equation_of, int_var, node_of, positive_of, term_of}

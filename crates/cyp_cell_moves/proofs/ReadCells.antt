@@ -2,10 +2,10 @@
 use Rattle.std.proofs.Common.{◌≡◌, ◌∙◌, ℕ, [], ◌∷◌, ◌++◌, ◌==◌, true, false, cond, not, ◌&&◌, None, Some, IsTrue, map, nat_le, slice_get, slice_set, refl, ap, sym}
 use Rattle.std.proofs.lemmas.Bool.{and_from, and_parts, both_ways, eq-eqb, false_from_ne_true, not-true, or_left}
 use Rattle.std.proofs.lemmas.List.{map-set, map_push}
-use Rattle.cyp_cells.proofs.Among.{among-flat_map, among_left, among_right, list_all-set, list_all-slice_get, list_all_at}
-use Rattle.cyp_cells.proofs.ClearCells.{IsClear, small_from_clear}
-use Rattle.cyp_cells.proofs.NewNumber.{new_int-node_of, new_number_apart}
-use Rattle.cyp_cells.proofs.SmallCells.{IsSmall}
+use Rattle.cyp_cell_moves.proofs.Among.{among-flat_map, among_left, among_right, list_all-set, list_all-slice_get, list_all_at}
+use Rattle.cyp_cell_moves.proofs.ClearCells.{IsClear, small_from_clear}
+use Rattle.cyp_cell_moves.proofs.NewNumber.{new_int-node_of, new_number_apart}
+use Rattle.cyp_cell_moves.proofs.SmallCells.{IsSmall}
 use Rattle.cyp_cells.specs.CellMoves.{is_small, is_small_cell, new_number, occurrences, read_content}
 use Rattle.cyp_cells.specs.CellNormal.{put_cell}
 use Rattle.cyp_cells.specs.Cells.{among, cell_numbers, cell_of, cells_numbers, equation_of, equations_numbers, int_var, node_of, positive_of, term_numbers, term_of}

@@ -9,12 +9,11 @@ use Rattle.cyp_cells.specs.declared.flat.FlatTerm.{FlatTerm}
 use Rattle.cyp_cells.specs.declared.flat.FlatTerm.TheVariants.{Named, Number}
 use Rattle.cyp_cells.specs.Cells.{among, cells_numbers, term_numbers}
 use Rattle.cyp_cells.specs.CellNormal.{put_cell, put_term}
-use Rattle.cyp_cells.specs.CellMoves.{IsCells, is_named, is_program_term, is_small, new_number, occurrences, read_at, read_content}
-use Rattle.cyp_cells.proofs.Members.{among_left, among_parts, among_right}
-use Rattle.cyp_cells.proofs.CellLists.{named_over, numbers_over, small_over}
-use Rattle.cyp_cells.proofs.FreshNumber.{new_number_not_exist}
-use Rattle.cyp_cells.proofs.Used.{are_used}
-use Rattle.cyp_cells.proofs.WellFormed.{IsRaw, IsWellFormed, apart_at, apart_from, raw_from_well_formed, taken, well_formed_from_cells}
+use Rattle.cyp_cells.specs.CellMoves.{IsCells, is_named, is_program_term, is_small, new_number, occurrences, read_at, read_content, are_used}
+use Rattle.cyp_cell_moves.proofs.Members.{among_left, among_parts, among_right}
+use Rattle.cyp_cell_moves.proofs.CellLists.{named_over, numbers_over, small_over}
+use Rattle.cyp_cell_moves.proofs.FreshNumber.{new_number_not_exist}
+use Rattle.cyp_cell_moves.proofs.WellFormed.{IsRaw, IsWellFormed, apart_at, apart_from, raw_from_well_formed, taken, well_formed_from_cells}
 
 -- a new program variable in place of a variable
 abbrev pub read_flat : Flat → ℕ → ℕ → Flat

@@ -3,15 +3,15 @@ use Rattle.std.proofs.Common.{◌≡◌, ◌∙◌, ℕ, pos, [], ◌∷◌, ◌
 use Rattle.std.specs.List.{list_all}
 use Rattle.std.proofs.lemmas.Bool.{eq-eqb, or_from, or_left}
 use Rattle.std.proofs.lemmas.List.{length_push}
-use Rattle.cyp_cells.proofs.Among.{among_right, list_any-append}
-use Rattle.cyp_cells.proofs.ClearCells.{IsClear}
-use Rattle.cyp_cells.proofs.Embedding.{renaming_of, var_in-int_var}
-use Rattle.cyp_cells.proofs.MapLaws.{list_all-map_when, map-map, map-set_same}
-use Rattle.cyp_cells.proofs.NormalCells.{finish-node_of}
-use Rattle.cyp_cells.proofs.PutCells.{apply_term-term_of, put_for, substitute-node_of}
-use Rattle.cyp_cells.proofs.ReadCells.{among-read, read_apart, read_flat, read_form, read_node, read_node-read_form, read_raw, read_universal, reads, small-read_raw}
-use Rattle.cyp_cells.proofs.SmallCells.{IsSmall}
-use Rattle.cyp_cells.proofs.SolveCells.{pick_at, solve_pre-node_of, solve_pre_at}
+use Rattle.cyp_cell_moves.proofs.Among.{among_right, list_any-append}
+use Rattle.cyp_cell_moves.proofs.ClearCells.{IsClear}
+use Rattle.cyp_cell_moves.proofs.Embedding.{renaming_of, var_in-int_var}
+use Rattle.cyp_cell_moves.proofs.MapLaws.{list_all-map_when, map-map, map-set_same}
+use Rattle.cyp_cell_moves.proofs.NormalCells.{finish-node_of}
+use Rattle.cyp_cell_moves.proofs.PutCells.{apply_term-term_of, put_for, substitute-node_of}
+use Rattle.cyp_cell_moves.proofs.ReadCells.{among-read, read_apart, read_flat, read_form, read_node, read_node-read_form, read_raw, read_universal, reads, small-read_raw}
+use Rattle.cyp_cell_moves.proofs.SmallCells.{IsSmall}
+use Rattle.cyp_cell_moves.proofs.SolveCells.{pick_at, solve_pre-node_of, solve_pre_at}
 use Rattle.cyp_cells.specs.CellMoves.{is_named, new_number}
 use Rattle.cyp_cells.specs.CellNormal.{finish_flat, normal_flat, put_cell, put_equation, put_flat, put_term, solve_flat}
 use Rattle.cyp_cells.specs.Cells.{among, cells_numbers, equation_of, int_var, node_of, positive_of, term_of}

@@ -2,12 +2,12 @@
 use Rattle.std.proofs.Common.{◌≡◌, ◌∙◌, ℕ, [], ◌∷◌, ◌++◌, ◌==◌, List, false, Some, count_by, map, nat_le, slice_get, refl, ap, append-nil}
 use Rattle.std.specs.List.{list_any}
 use Rattle.std.proofs.lemmas.Bool.{or_from}
-use Rattle.cyp_cells.proofs.Among.{list_any-append}
-use Rattle.cyp_cells.proofs.ClearCells.{IsClear}
-use Rattle.cyp_cells.proofs.Counts.{count_by-map}
-use Rattle.cyp_cells.proofs.Embedding.{chunks_vars-cell_of, joined, lits_vars-equation_of, lits_vars-positive_of, var_in-int_var}
-use Rattle.cyp_cells.proofs.ReadCells.{read_form, read_node, read_node-read_form, read_raw, reads, small-read_raw}
-use Rattle.cyp_cells.proofs.SmallCells.{IsSmall, wide_chunks-cell_of, wide_lits-equation_of, wide_lits-positive_of}
+use Rattle.cyp_cell_moves.proofs.Among.{list_any-append}
+use Rattle.cyp_cell_moves.proofs.ClearCells.{IsClear}
+use Rattle.cyp_cell_moves.proofs.Counts.{count_by-map}
+use Rattle.cyp_cell_moves.proofs.Embedding.{chunks_vars-cell_of, joined, lits_vars-equation_of, lits_vars-positive_of, var_in-int_var}
+use Rattle.cyp_cell_moves.proofs.ReadCells.{read_form, read_node, read_node-read_form, read_raw, reads, small-read_raw}
+use Rattle.cyp_cell_moves.proofs.SmallCells.{IsSmall, wide_chunks-cell_of, wide_lits-equation_of, wide_lits-positive_of}
 use Rattle.cyp_cells.specs.CellMoves.{is_program_term, new_number, occurrences}
 use Rattle.cyp_cells.specs.Cells.{cells_numbers, equations_numbers, goal_of, int_var, positive_of, term_of}
 use Rattle.cyp_cells.specs.declared.flat.Flat.{Flat}

@@ -3,7 +3,7 @@ use Rattle.std.proofs.Common.{◌≡◌, ℕ, suc, ◌+◌, ◌≤◌, ◌<◌, 
 use Rattle.std.proofs.lemmas.Bool.{false≢true, cases_Bool, cases_eq, eqb-false, or_cases, or_left, or_right}
 use Rattle.cyp_cells.specs.CellNormal.{place_from, place_in}
 use Rattle.cyp_cells.specs.Cells.{among}
-use Rattle.cyp_cells.proofs.Members.{AreAmong}
+use Rattle.cyp_cell_moves.proofs.Members.{AreAmong}
 
 -- the first number of the list is at the first place
 place_here : (k u : ℕ) (us : List ℕ) (v : ℕ) → (u == v) ≡ true → place_from k (u ∷ us) v ≡ k

@@ -13,14 +13,15 @@ use Rattle.cyp_step.specs.declared.rule.Rule.{Rule}
 use Rattle.cyp_cells.specs.declared.flat.Flat.{Flat}
 use Rattle.cyp_cells.specs.declared.flat.FlatEquation.{FlatEquation}
 use Rattle.cyp_cells.specs.Cells.{goal_of, node_of}
-use Rattle.cyp_cells.specs.CellNormal.{FlatRenaming, normal_flat}
+use Rattle.cyp_cells.specs.CellNormal.{normal_flat}
+use Rattle.cyp_cells.specs.declared.flat.FlatRenaming.{FlatRenaming}
 use Rattle.cyp_cells.specs.CellMoves.{flat_row, is_consistent}
-use Rattle.cyp_cells.proofs.CellDead.{dead-equation, dead_not-clear}
-use Rattle.cyp_cells.proofs.NormalKeeps.{normal_well_formed}
-use Rattle.cyp_cells.proofs.NormalConsistent.{normal_consistent}
-use Rattle.cyp_cells.proofs.NormalLeftover.{leftover}
-use Rattle.cyp_cells.proofs.PremisesOfCells.{one_renaming}
-use Rattle.cyp_cells.proofs.WellFormed.{IsRaw}
+use Rattle.cyp_cell_moves.proofs.CellDead.{dead-equation, dead_not-clear}
+use Rattle.cyp_cell_moves.proofs.NormalKeeps.{normal_well_formed}
+use Rattle.cyp_cell_moves.proofs.NormalConsistent.{normal_consistent}
+use Rattle.cyp_cell_moves.proofs.NormalLeftover.{leftover}
+use Rattle.cyp_cell_moves.proofs.PremisesOfCells.{one_renaming}
+use Rattle.cyp_cell_moves.proofs.WellFormed.{IsRaw}
 
 -- the general row of a row of cells alone
 abbrev pub row_of : AltOf Rule Flat → Row

@@ -1,6 +1,6 @@
 -- Worked goals: the normal form of cells alone is that of the general definition.
 use Rattle.std.proofs.Common.{◌≡◌, ℕ, [], ◌∷◌, option_map, refl}
-use Rattle.cyp_cells.proofs.Embedding.{renaming_of}
+use Rattle.cyp_cell_moves.proofs.Embedding.{renaming_of}
 use Rattle.cyp_goal.specs.Normal.{normal}
 use Rattle.cyp_cells.specs.declared.flat.FlatTerm.{FlatTerm}
 use Rattle.cyp_cells.specs.declared.flat.FlatTerm.TheVariants.{Named, Number}

@@ -2,7 +2,7 @@
 use Rattle.std.proofs.Common.{◌≡◌, ℕ, [], ◌∷◌, ◌==◌, List, Bool, true, false, cond, ◌&&◌, IsTrue, map, refl}
 use Rattle.std.specs.List.{list_all, list_any}
 use Rattle.std.proofs.lemmas.Bool.{and_from, and_parts, not_from_true}
-use Rattle.cyp_cells.proofs.MapLaws.{list_all-map_when, list_any-map_none}
+use Rattle.cyp_cell_moves.proofs.MapLaws.{list_all-map_when, list_any-map_none}
 use Rattle.cyp_cells.specs.CellMoves.{is_small, is_small_cell}
 use Rattle.cyp_cells.specs.CellNormal.{put_cell, put_equation, put_flat, put_term}
 use Rattle.cyp_cells.specs.Cells.{cell_of, equation_of, node_of, positive_of, term_of}

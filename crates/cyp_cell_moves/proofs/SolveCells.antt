@@ -1,8 +1,9 @@
 -- The steps of the normal form that solve equations, at goals of cells alone.
 use Rattle.std.proofs.Common.{◌≡◌, ◌∙◌, ℕ, [], ◌∷◌, List, Bool, true, false, cond, not, ◌&&◌, Option, None, Some, map, neg_ℤ, option_and_then, option_map, pos, refl, suc, zero, ap}
-use Rattle.cyp_cells.proofs.Embedding.{plus-term_of, var_in-int_var}
-use Rattle.cyp_cells.proofs.PutCells.{put_for}
-use Rattle.cyp_cells.specs.CellNormal.{Picked, Solution, pick_by, pick_first, solution, solved_side_by}
+use Rattle.cyp_cell_moves.proofs.Embedding.{plus-term_of, var_in-int_var}
+use Rattle.cyp_cell_moves.proofs.PutCells.{put_for}
+use Rattle.cyp_cells.specs.CellNormal.{Picked, pick_by, pick_first, solution, solved_side_by}
+use Rattle.cyp_cells.specs.declared.solve.Solution.{Solution}
 use Rattle.cyp_cells.specs.Cells.{among, equation_of, int_var, node_of, positive_of, same_term, term_of}
 use Rattle.cyp_cells.specs.declared.flat.Flat.{Flat}
 use Rattle.cyp_cells.specs.declared.flat.FlatEquation.{FlatEquation}

@@ -1,10 +1,10 @@
 -- Solving, at goals of cells alone.
 use Rattle.std.proofs.Common.{◌≡◌, ◌∙◌, ℕ, List, Option, None, Some, length, option_and_then, option_map, refl, suc, zero, ap}
 use Rattle.std.proofs.lemmas.List.{length-map}
-use Rattle.cyp_cells.proofs.PlainCells.{IsPicked, IsPlain, exist_apart, picked_first, plain-solve_picked, positive_kept}
-use Rattle.cyp_cells.proofs.PutCells.{put_for, substitute-node_of}
-use Rattle.cyp_cells.proofs.SmallCells.{IsSmall}
-use Rattle.cyp_cells.proofs.SolveCells.{first_solved-equation_of, picked_of, solve_pre-node_of}
+use Rattle.cyp_cell_moves.proofs.PlainCells.{IsPicked, IsPlain, exist_apart, picked_first, plain-solve_picked, positive_kept}
+use Rattle.cyp_cell_moves.proofs.PutCells.{put_for, substitute-node_of}
+use Rattle.cyp_cell_moves.proofs.SmallCells.{IsSmall}
+use Rattle.cyp_cell_moves.proofs.SolveCells.{first_solved-equation_of, picked_of, solve_pre-node_of}
 use Rattle.cyp_cells.specs.CellNormal.{Picked, pick_first, solve_flat, solve_picked}
 use Rattle.cyp_cells.specs.Cells.{equation_of, node_of}
 use Rattle.cyp_cells.specs.declared.flat.Flat.{Flat}

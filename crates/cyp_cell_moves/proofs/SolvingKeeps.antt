@@ -10,11 +10,12 @@ use Rattle.cyp_cells.specs.declared.flat.FlatEquation.{FlatEquation}
 use Rattle.cyp_cells.specs.declared.flat.FlatTerm.{FlatTerm}
 use Rattle.cyp_cells.specs.declared.flat.FlatTerm.TheVariants.{Named, Number}
 use Rattle.cyp_cells.specs.Cells.{among, cells_numbers, same_term, term_numbers}
-use Rattle.cyp_cells.specs.CellNormal.{Picked, Solution, keep_behind, pick_by, pick_first, put_cell, put_equation, put_term, solution, solve_flat, solve_picked, solved_side_by}
+use Rattle.cyp_cells.specs.CellNormal.{Picked, keep_behind, pick_by, pick_first, put_cell, put_equation, put_term, solution, solve_flat, solve_picked, solved_side_by}
+use Rattle.cyp_cells.specs.declared.solve.Solution.{Solution}
 use Rattle.cyp_cells.specs.CellMoves.{is_small}
-use Rattle.cyp_cells.proofs.Members.{among_right}
-use Rattle.cyp_cells.proofs.CellLists.{same_over, small_over}
-use Rattle.cyp_cells.proofs.WellFormed.{IsRaw, apart_at, is_small_equation, taken}
+use Rattle.cyp_cell_moves.proofs.Members.{among_right}
+use Rattle.cyp_cell_moves.proofs.CellLists.{same_over, small_over}
+use Rattle.cyp_cell_moves.proofs.WellFormed.{IsRaw, apart_at, is_small_equation, taken}
 
 -- ---- what is picked
 

@@ -3,8 +3,8 @@ use Rattle.std.proofs.Common.{◌≡◌, ◌∙◌, ℕ, [], ◌∷◌, ◌++◌
 use Rattle.std.specs.List.{list_all}
 use Rattle.std.proofs.lemmas.Bool.{and_parts, false≢true}
 use Rattle.std.proofs.lemmas.List.{map-append}
-use Rattle.cyp_cells.proofs.Embedding.{lit_eq-equation_of, lit_eq-positive_of, term_eq-term_of, term_vars-term_of}
-use Rattle.cyp_cells.proofs.MapLaws.{filter-map, filter_full, map_after, with_all_new-map, without_repeats-map}
+use Rattle.cyp_cell_moves.proofs.Embedding.{lit_eq-equation_of, lit_eq-positive_of, term_eq-term_of, term_vars-term_of}
+use Rattle.cyp_cell_moves.proofs.MapLaws.{filter-map, filter_full, map_after, with_all_new-map, without_repeats-map}
 use Rattle.cyp_cells.specs.CellMoves.{is_named}
 use Rattle.cyp_cells.specs.CellNormal.{address_numbers, is_alike, same_equation, tidy_flat}
 use Rattle.cyp_cells.specs.Cells.{cell_of, equation_of, int_var, node_of, once, positive_of, term_numbers, term_of}

@@ -4,17 +4,15 @@ use Rattle.std.proofs.lemmas.Bool.{false≢true}
 use Rattle.std.proofs.lemmas.List.Folds.{list_all-map}
 use Rattle.std.specs.Bool.{IsTrue}
 use Rattle.std.specs.List.{list_all}
+use Rattle.cyp_cells.specs.CellMoves.{are_used}
 use Rattle.cyp_cells.specs.declared.flat.Flat.{Flat}
 use Rattle.cyp_cells.specs.Cells.{all_numbers, among, cells_numbers, equations_numbers, once}
-use Rattle.cyp_cells.specs.CellNormal.{FlatRenaming, normal_flat, number_flat, place_in, prune_flat, rename_equation, rename_flat, solve_flat, tidy_flat}
-use Rattle.cyp_cells.proofs.Members.{all_among, all_from_among, among_filter, among_parts}
-use Rattle.cyp_cells.proofs.NormalKeeps.{kept_flat, normal_is}
-use Rattle.cyp_cells.proofs.Parts.{cells_numbers-renamed}
-use Rattle.cyp_cells.proofs.Renaming.{among_map}
-
--- each existential stands in the postcondition
-abbrev pub are_used : Flat → Bool
-are_used f = list_all (λ v. among v (cells_numbers f.post)) f.exist
+use Rattle.cyp_cells.specs.CellNormal.{normal_flat, number_flat, place_in, prune_flat, rename_equation, rename_flat, solve_flat, tidy_flat}
+use Rattle.cyp_cells.specs.declared.flat.FlatRenaming.{FlatRenaming}
+use Rattle.cyp_cell_moves.proofs.Members.{all_among, all_from_among, among_filter, among_parts}
+use Rattle.cyp_cell_moves.proofs.NormalKeeps.{kept_flat, normal_is}
+use Rattle.cyp_cell_moves.proofs.Parts.{cells_numbers-renamed}
+use Rattle.cyp_cell_moves.proofs.Renaming.{among_map}
 
 -- only the empty list has an empty image
 nil_from_map : {A B : Type 0} (g : A → B) (xs : List A) → map g xs ≡ [] → xs ≡ []

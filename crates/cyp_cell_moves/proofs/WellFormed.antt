@@ -7,8 +7,8 @@ use Rattle.cyp_cells.specs.declared.flat.Flat.{Flat}
 use Rattle.cyp_cells.specs.declared.flat.FlatEquation.{FlatEquation}
 use Rattle.cyp_cells.specs.Cells.{among, cells_numbers}
 use Rattle.cyp_cells.specs.CellMoves.{IsCells, is_small, is_small_cell}
-use Rattle.cyp_cells.proofs.Members.{all_among, all_from_among}
-use Rattle.cyp_cells.proofs.CellLists.{has_named}
+use Rattle.cyp_cell_moves.proofs.Members.{all_among, all_from_among}
+use Rattle.cyp_cell_moves.proofs.CellLists.{has_named}
 
 -- the numbers that no existential may have
 abbrev pub taken : Flat → List ℕ

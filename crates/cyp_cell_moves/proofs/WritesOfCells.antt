@@ -16,10 +16,10 @@ use Rattle.cyp_cells.specs.declared.flat.FlatCell.{FlatCell}
 use Rattle.cyp_cells.specs.declared.flat.FlatTerm.{FlatTerm}
 use Rattle.cyp_cells.specs.Cells.{cell_of, goal_of, node_of, positive_of, same_term, term_of}
 use Rattle.cyp_cells.specs.CellMoves.{IsCells, first_at, has_existential, is_consistent, is_program_term, write_at}
-use Rattle.cyp_cells.proofs.CellTerms.{has_exist-term_of, is_program_expr-term_of}
-use Rattle.cyp_cells.proofs.CellFits.{HasKnown}
-use Rattle.cyp_cells.proofs.CellShown.{shown-same}
-use Rattle.cyp_cells.proofs.CellKnown.{BothKnown, known-post, known-pre}
+use Rattle.cyp_cell_moves.proofs.CellTerms.{has_exist-term_of, is_program_expr-term_of}
+use Rattle.cyp_cell_moves.proofs.CellFits.{HasKnown}
+use Rattle.cyp_cell_moves.proofs.CellShown.{shown-same}
+use Rattle.cyp_cell_moves.proofs.CellKnown.{BothKnown, known-post, known-pre}
 
 pub slice_set-map : {A B : Type 0} (g : A → B) (xs : List A) (i : ℕ) (x : A) → slice_set (map g xs) i (g x) ≡ map g (slice_set xs i x)
 slice_set-map g [] i x = refl

@@ -1,3 +1,5 @@
 pub mod Cells
-pub mod CellNormal
 pub mod CellMoves
+pub mod CellNormal
+pub mod Collected
+pub mod FlatAlts

@@ -3,6 +3,27 @@
 //! general layers take such goals too.
 #![tactic(auto)]
 
+mod alt;
+mod facts;
 mod flat;
+mod moves;
+mod node;
+mod normal;
+mod numbers;
+mod prune;
+mod reads;
+mod rename;
+mod solve;
+mod stores;
+mod terms;
+mod tidy;
 
-pub use flat::{Flat, FlatCell, FlatEquation, FlatTerm};
+pub use alt::FlatAlt;
+pub use flat::{Flat, FlatCell, FlatEquation, FlatRenaming, FlatTerm};
+pub use moves::flat_moves;
+pub use node::CellsNode;
+pub use normal::normal_flat;
+pub use solve::Solution;
+
+#[cfg(test)]
+mod tests;
