@@ -1,7 +1,7 @@
 -- Which companions of a derivation are called.
 use Rattle.std.specs.Prelude.{◌+◌, ◌==◌, Bool, cond, false, length, suc, ◌||◌, ℕ}
 use Rattle.cyp_heap.specs.declared.goal.Node.{Node}
-use Rattle.cyp_space.specs.Derivations.{Derivation, Derivations, Derived, More, NoMore}
+use Rattle.cyp_tree.specs.Derivations.{Derivation, Derivations, Derived, More, NoMore}
 use Rattle.cyp_step.specs.declared.rule.Rule.{Rule}
 use Rattle.cyp_step.specs.declared.rule.Rule.TheVariants.{ByCall, ByOpen}
 

@@ -7,7 +7,7 @@ use Rattle.cyp_kernel.specs.Companions.{Proof, Proofs, called_count, is_called}
 use Rattle.cyp_kernel.specs.Naming.{Names, expr_of, name_of, param_names}
 use Rattle.cyp_kernel.specs.Statements.{rule_body}
 use Rattle.cyp_prog.specs.Programs.{Body, End, Invoking, Procedure, Then}
-use Rattle.cyp_space.specs.Derivations.{Derived, More, NoMore}
+use Rattle.cyp_tree.specs.Derivations.{Derived, More, NoMore}
 use Rattle.cyp_step.specs.Changes.{new_int}
 use Rattle.cyp_step.specs.Step.{renamed_premises}
 use Rattle.cyp_step.specs.declared.rule.Rule.{Rule}

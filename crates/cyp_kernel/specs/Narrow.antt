@@ -2,7 +2,7 @@
 use Rattle.std.specs.Prelude.{◌&&◌, Bool, false, length, max, nat_le, not, true, ℕ}
 use Rattle.cyp_kernel.specs.Companions.{Proof, Proofs, is_called}
 use Rattle.cyp_kernel.specs.Compile.{bound_count}
-use Rattle.cyp_space.specs.Derivations.{Derived, More, NoMore}
+use Rattle.cyp_tree.specs.Derivations.{Derived, More, NoMore}
 
 abbrev mutual
   -- the greatest number of parameters and binders on a path of a procedure

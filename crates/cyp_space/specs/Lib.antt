@@ -1,2 +1,4 @@
 pub mod Alts
-pub mod Derivations
+pub mod Counts
+pub mod SettingsValue
+pub mod Stops
