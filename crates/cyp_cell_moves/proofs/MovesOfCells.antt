@@ -40,12 +40,9 @@ use Rattle.cyp_cell_moves.proofs.ClearCells.{clear_from_cells}
 use Rattle.cyp_cell_moves.proofs.Limits.{few_moves}
 use Rattle.cyp_cell_moves.proofs.ListedRows.{filter_map-places, filter_map_none, filter_map_one, least_allowed-none, of_kinds-append, of_kinds-rows}
 use Rattle.cyp_cell_moves.proofs.PremisesOfCells.{one_renaming, premises_frame, premises_read, premises_write}
-use Rattle.cyp_cell_moves.proofs.RowOfCells.{LeavesRaw, row-node_of, row_by, row_of}
+use Rattle.cyp_cell_moves.proofs.RowOfCells.{LeavesRaw, row-node_of, row_by}
 use Rattle.cyp_cell_moves.proofs.WritesOfCells.{write_by, write_here}
-
--- the general alternative of one of cells alone
-abbrev pub alt_of : AltOf Rule Flat → AltOf Rule Node
-alt_of a = priced (row_of a)
+use Rattle.cyp_cell_moves.specs.CellAlts.{row_of}
 
 -- the kinds of row that goals of cells alone have
 pub record Covers (kinds : Rule → Bool) : Type 0 where

@@ -29,9 +29,10 @@ use Rattle.cyp_cells.specs.CellMoves.{IsCells, flat_moves, flat_row, frame_rows,
 use Rattle.cyp_cell_moves.proofs.CellDead.{dead_not-clear, dead_not-inconsistent}
 use Rattle.cyp_cell_moves.proofs.Limits.{few_moves}
 use Rattle.cyp_cell_moves.proofs.ListedRows.{least_allowed-none, of_kinds-append, of_kinds-least, of_kinds-rows}
-use Rattle.cyp_cell_moves.proofs.MovesOfCells.{Covers, alt_of, contradiction_by, contradiction_rows, end_by, end_rows, frames, length_cells, read_rows, write_row, writes, written_rows}
-use Rattle.cyp_cell_moves.proofs.RowOfCells.{row_by, row_of}
+use Rattle.cyp_cell_moves.proofs.MovesOfCells.{Covers, contradiction_by, contradiction_rows, end_by, end_rows, frames, length_cells, read_rows, write_row, writes, written_rows}
+use Rattle.cyp_cell_moves.proofs.RowOfCells.{row_by}
 use Rattle.cyp_cell_moves.proofs.WritesOfCells.{write_by}
+use Rattle.cyp_cell_moves.specs.CellAlts.{alt_of, row_of}
 
 -- ---- the rows that stand alone
 
