@@ -1,5 +1,6 @@
 pub mod Derivations
 pub mod Follows
+pub mod Follows
 pub mod Growing
 pub mod Laws
 pub mod Live
