@@ -4,5 +4,7 @@
 #![tactic(auto)]
 
 mod flat;
+mod node;
 
 pub use flat::{Flat, FlatCell, FlatEquation, FlatTerm};
+pub use node::CellsNode;
