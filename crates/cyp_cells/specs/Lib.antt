@@ -1,3 +1,4 @@
 pub mod Cells
-pub mod CellNormal
 pub mod CellMoves
+pub mod CellNormal
+pub mod Collected

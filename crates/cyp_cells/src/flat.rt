@@ -1,6 +1,7 @@
 ghost use Rattle.std.specs.Prelude.{◌≡◌};
 
-use cyp_term::List;
+use cyp_term::{Copied, List, NoMemory};
+use std::alloc::Global;
 
 /// A term without an offset: an integer variable by its number, or a number.
 #[derive(Clone, Copy, Debug, PartialEq, Eq, Hash)]
@@ -33,4 +34,35 @@ pub struct Flat {
     pub pre: List<FlatCell>,
     pub equations: List<FlatEquation>,
     pub post: List<FlatCell>,
+}
+
+impl Copied for FlatTerm {
+    fn copy(&self, _alloc: Global) -> Result<FlatTerm, NoMemory> {
+        Ok(*self)
+    }
+}
+
+impl Copied for FlatCell {
+    fn copy(&self, _alloc: Global) -> Result<FlatCell, NoMemory> {
+        Ok(*self)
+    }
+}
+
+impl Copied for FlatEquation {
+    fn copy(&self, _alloc: Global) -> Result<FlatEquation, NoMemory> {
+        Ok(*self)
+    }
+}
+
+impl Copied for Flat {
+    fn copy(&self, alloc: Global) -> Result<Flat, NoMemory> {
+        Ok(Flat {
+            program: self.program.copy(alloc)?,
+            exist: self.exist.copy(alloc)?,
+            positive: self.positive.copy(alloc)?,
+            pre: self.pre.copy(alloc)?,
+            equations: self.equations.copy(alloc)?,
+            post: self.post.copy(alloc)?,
+        })
+    }
 }

@@ -5,6 +5,7 @@
 
 mod flat;
 mod node;
+mod numbers;
 
 pub use flat::{Flat, FlatCell, FlatEquation, FlatTerm};
 pub use node::CellsNode;
