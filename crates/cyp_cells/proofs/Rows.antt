@@ -8,7 +8,8 @@ use Rattle.cyp_cells.specs.declared.flat.FlatTerm.TheVariants.{Named, Number}
 use Rattle.cyp_cells.specs.declared.flat.FlatCell.{FlatCell}
 use Rattle.cyp_cells.specs.declared.flat.Flat.{Flat}
 use Rattle.cyp_cells.specs.Cells.{int_var, node_of}
-use Rattle.cyp_cells.specs.CellNormal.{FlatRenaming, normal_flat}
+use Rattle.cyp_cells.specs.declared.flat.FlatRenaming.{FlatRenaming}
+use Rattle.cyp_cells.specs.CellNormal.{normal_flat}
 use Rattle.cyp_cells.specs.CellMoves.{frame_at}
 
 abbrev renaming_of : FlatRenaming → Renaming

@@ -4,8 +4,10 @@ use Rattle.cyp_cells.specs.Cells.{all_numbers, among, cells_numbers, equations_n
 use Rattle.cyp_cells.specs.declared.flat.Flat.{Flat}
 use Rattle.cyp_cells.specs.declared.flat.FlatCell.{FlatCell}
 use Rattle.cyp_cells.specs.declared.flat.FlatEquation.{FlatEquation}
+use Rattle.cyp_cells.specs.declared.flat.FlatRenaming.{FlatRenaming}
 use Rattle.cyp_cells.specs.declared.flat.FlatTerm.{FlatTerm}
 use Rattle.cyp_cells.specs.declared.flat.FlatTerm.TheVariants.{Named, Number}
+use Rattle.cyp_cells.specs.declared.solve.Solution.{Solution}
 use Rattle.cyp_goal.specs.Solving.{first_some}
 use Rattle.cyp_term.specs.Terms.{with_all_new, without_repeats}
 
@@ -25,11 +27,6 @@ put_equation v t e = record { left = put_term v t e.left; right = put_term v t e
 -- in both heaps and the equations
 abbrev pub put_flat : ℕ → FlatTerm → Flat → Flat
 put_flat v t f = record f { pre = map (put_cell v t) f.pre; equations = map (put_equation v t) f.equations; post = map (put_cell v t) f.post }
-
--- a variable and the term that it is solved for
-pub record Solution : Type 0 where
-  pub var : ℕ
-  pub to : FlatTerm
 
 -- a side that is an existential and isn't the other side
 abbrev pub solved_side_by : List ℕ → FlatTerm → FlatTerm → Option Solution
@@ -145,11 +142,6 @@ is_flat_within f =
     && nat_le (length f.program) 12 && nat_le (length (once (all_numbers f))) 32 && nat_le (flat_units f) 240
 
 -- ---- the whole
-
--- a goal in normal form, and what each of its program variables was called before
-pub record FlatRenaming : Type 0 where
-  pub flat : Flat
-  pub old : List ℕ
 
 -- the steps behind solving
 abbrev pub finish_flat : Flat → Option FlatRenaming

@@ -36,6 +36,13 @@ pub struct Flat {
     pub post: List<FlatCell>,
 }
 
+/// A goal in normal form, and what each of its program variables was called before.
+#[derive(Debug, Drop, PartialEq, Eq, Hash)]
+pub struct FlatRenaming {
+    pub flat: Flat,
+    pub old: List<u8>,
+}
+
 impl Copied for FlatTerm {
     fn copy(&self, _alloc: Global) -> Result<FlatTerm, NoMemory> {
         Ok(*self)

@@ -5,7 +5,15 @@
 
 mod flat;
 mod node;
+mod normal;
 mod numbers;
+mod prune;
+mod rename;
+mod solve;
+mod terms;
+mod tidy;
 
-pub use flat::{Flat, FlatCell, FlatEquation, FlatTerm};
+pub use flat::{Flat, FlatCell, FlatEquation, FlatRenaming, FlatTerm};
 pub use node::CellsNode;
+pub use normal::normal_flat;
+pub use solve::Solution;

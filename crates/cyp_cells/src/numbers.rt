@@ -14,7 +14,7 @@ pub(crate) fn is_among(number: u8, numbers: &[u8]) -> bool
 }
 
 /// Adds a number that isn't there yet.
-fn add(numbers: &mut Vec<u8>, number: u8) -> Result<(), NoMemory>
+pub(crate) fn add(numbers: &mut Vec<u8>, number: u8) -> Result<(), NoMemory>
     ensures { OnOk result (numbers.new.items ≡ with_new (λ v w. v == w) numbers.old.items number) }
 {
     if !is_among(number, numbers.as_slice()) {
