@@ -102,9 +102,9 @@ fn solve_at(goal: Flat, place: usize, by: Solution) -> Flat
 pub(crate) fn solve(goal: Flat) -> Flat
     ensures { result ≡ solve_flat (length goal.equations) goal }
 {
-    let mut goal = goal;
-    while let Some((place, by)) = first_solved(goal.exist.as_slice(), goal.equations.as_slice()) {
-        goal = solve_at(goal, place, by);
+    let mut left = goal;
+    while let Some((place, by)) = first_solved(left.exist.as_slice(), left.equations.as_slice()) {
+        left = solve_at(left, place, by);
     }
-    goal
+    left
 }

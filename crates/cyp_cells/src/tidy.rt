@@ -1,4 +1,5 @@
 ghost use Rattle.std.specs.Prelude.{◌≡◌, IfOk, OnOk, filter, not};
+ghost use Rattle.std.specs.List.{list_any};
 ghost use Rattle.cyp_cells.specs.CellNormal.{address_numbers, is_alike, same_equation, tidy_flat};
 ghost use Rattle.cyp_cells.specs.Collected.{joined};
 ghost use Rattle.cyp_term.specs.Terms.{with_new, without_repeats};
@@ -21,12 +22,17 @@ fn add_addresses(numbers: &mut Vec<u8>, cells: &[FlatCell]) -> Result<(), NoMemo
     Ok(())
 }
 
+fn is_there(equation: FlatEquation, equations: &[FlatEquation]) -> bool
+    ensures { result ≡ list_any (same_equation equation) equations.now }
+{
+    equations.iter().any(|other| is_same_equation(equation, *other))
+}
+
 /// Adds an equation that isn't there yet.
 fn add_equation(equations: &mut Vec<FlatEquation>, equation: FlatEquation) -> Result<(), NoMemory>
     ensures { OnOk result (equations.new.items ≡ with_new same_equation equations.old.items equation) }
 {
-    let is_there = equations.iter().any(|other| is_same_equation(equation, *other));
-    if !is_there {
+    if !is_there(equation, equations.as_slice()) {
         equations.push(equation)?;
     }
     Ok(())
