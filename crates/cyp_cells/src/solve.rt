@@ -34,6 +34,7 @@ fn solved(exist: &[u8], equation: FlatEquation) -> Option<Solution>
 }
 
 /// The place of the first equation that can be solved.
+#[tactic(auto, using(crate::proofs::Picking::pick_first_more, crate::proofs::Picking::pick_first_found, crate::proofs::Picking::behind_none))]
 fn first_solved(exist: &[u8], equations: &[FlatEquation]) -> Option<(usize, Solution)>
     ensures within { IfSome result (λ p. p.0 < length equations.now) }
     ensures picked { option_map (λ p. record { solution = p.1; rest = remove equations.now p.0 }) result ≡ pick_first exist.now equations.now }

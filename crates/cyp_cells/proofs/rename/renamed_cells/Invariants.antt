@@ -4,4 +4,4 @@ use Rattle.cyp_cells.proofs.rename.renamed_cells.Given as goal
 
 abbrev pub invariant-loop-cell : goal.invariant-loop-cell
 invariant-loop-cell l =
-    l.cells.items ≡ map (rename_cell l.numbers) (take l.cell-index l.initial.cells.items) ++ drop l.cell-index l.initial.cells.items
+    l.cell-items ≡ map (rename_cell l.numbers) (take l.cell-index l.initial.cell-items) ++ drop l.cell-index l.initial.cell-items

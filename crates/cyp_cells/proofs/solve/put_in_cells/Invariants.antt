@@ -4,4 +4,4 @@ use Rattle.cyp_cells.proofs.solve.put_in_cells.Given as goal
 
 abbrev pub invariant-loop-cell : goal.invariant-loop-cell
 invariant-loop-cell l =
-    l.cells.items ≡ map (put_cell l.by.var l.by.to) (take l.cell-index l.initial.cells.items) ++ drop l.cell-index l.initial.cells.items
+    l.cell-items ≡ map (put_cell l.by.var l.by.to) (take l.cell-index l.initial.cell-items) ++ drop l.cell-index l.initial.cell-items

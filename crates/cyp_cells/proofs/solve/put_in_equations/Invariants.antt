@@ -4,4 +4,4 @@ use Rattle.cyp_cells.proofs.solve.put_in_equations.Given as goal
 
 abbrev pub invariant-loop-equation : goal.invariant-loop-equation
 invariant-loop-equation l =
-    l.equations.items ≡ map (put_equation l.by.var l.by.to) (take l.equation-index l.initial.equations.items) ++ drop l.equation-index l.initial.equations.items
+    l.equation-items ≡ map (put_equation l.by.var l.by.to) (take l.equation-index l.initial.equation-items) ++ drop l.equation-index l.initial.equation-items
