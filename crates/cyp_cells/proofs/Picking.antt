@@ -1,6 +1,6 @@
 -- The first equation that can be solved, and solving it.
-use Rattle.std.proofs.Common.{◌≡◌, ℕ, zero, suc, ◌+◌, ◌<◌, List, [], ◌∷◌, ◌++◌, Option, Some, None, option_map, length, get_or, take, drop, remove, refl, sym, ap, subst, ◌∙◌, arith, add-one}
-use Rattle.std.proofs.lemmas.List.{drop_more, take_more, length-map}
+use Rattle.std.proofs.Common.{◌≡◌, ℕ, zero, suc, ◌+◌, ◌<◌, ◌≤◌, List, [], ◌∷◌, ◌++◌, Option, Some, None, option_map, length, get_or, take, drop, remove, refl, sym, ap, subst, ◌∙◌, arith, add-one}
+use Rattle.std.proofs.lemmas.List.{drop_all, drop_more, take_more, length-map}
 use Rattle.std.proofs.lemmas.List.Edits.{length-remove}
 use Rattle.cyp_cells.specs.declared.flat.Flat.{Flat}
 use Rattle.cyp_cells.specs.declared.flat.FlatEquation.{FlatEquation}
@@ -20,7 +20,7 @@ behind_some : (es rest : List FlatEquation) (s : Solution) → behind es (Some (
 behind_some [] rest s = refl
 behind_some (x ∷ es) rest s = ap (option_map (keep_behind x)) (behind_some es rest s)
 
-pub behind_none : (es : List FlatEquation) → behind es None ≡ None
+behind_none : (es : List FlatEquation) → behind es None ≡ None
 behind_none [] = refl
 behind_none (x ∷ es) = ap (option_map (keep_behind x)) (behind_none es)
 
@@ -40,6 +40,11 @@ pick_first_more exist es i d lt e h =
 pub pick_first_found : (exist : List ℕ) (es : List FlatEquation) (i : ℕ) (d : FlatEquation) (s : Solution) → i < length es → solution exist (get_or es i d) ≡ Some s → pick_first exist es ≡ behind (take i es) (pick_first exist (drop i es)) → Some (record { solution = s; rest = remove es i }) ≡ pick_first exist es
 pick_first_found exist es i d s lt e h =
     rw add-one at (sym (pick_at exist es i d (Some s) lt e h ∙ behind_some (take i es) (drop (i + 1) es) s))
+
+-- none can be solved
+pub pick_first_all : (exist : List ℕ) (es : List FlatEquation) (i : ℕ) → length es ≤ i → pick_first exist es ≡ behind (take i es) (pick_first exist (drop i es)) → None ≡ pick_first exist es
+pick_first_all exist es i le h =
+    sym (h ∙ ap (λ r. behind (take i es) (pick_first exist r)) (drop_all i es le) ∙ behind_none (take i es))
 
 abbrev solve_by : ℕ → Flat → Option Picked → Flat
 solve_by k f None = f
@@ -64,8 +69,10 @@ solve_picked_length : (f : Flat) (p : Picked) → length p.rest ≡ length (solv
 solve_picked_length f p = sym (length-map p.rest (put_equation p.solution.var p.solution.to))
 
 -- a turn of the loop
-pub solve_flat_turn : (f g : Flat) (s : Solution) (i : ℕ) → i < length f.equations → Some (record { solution = s; rest = remove f.equations i }) ≡ pick_first f.exist f.equations → g ≡ solve_picked f (record { solution = s; rest = remove f.equations i }) → solve_flat (length f.equations) f ≡ solve_flat (length g.equations) g
-solve_flat_turn f g s i lt e h =
+pub solve_flat_turn : (f g : Flat) (exist : List ℕ) (es : List FlatEquation) (s : Solution) (i : ℕ) → exist ≡ f.exist → es ≡ f.equations → i < length es → Some (record { solution = s; rest = remove es i }) ≡ pick_first exist es → g ≡ solve_picked f (record { solution = s; rest = remove f.equations i }) → solve_flat (length f.equations) f ≡ solve_flat (length g.equations) g
+solve_flat_turn f g exist es s i a b lt' e' h =
+    let lt : i < length f.equations = rw b at lt' in
+    let e : Some (record { solution = s; rest = remove f.equations i }) ≡ pick_first f.exist f.equations = rw (a, b) at e' in
     let p : Picked = record { solution = s; rest = remove f.equations i } in
     let P : Flat → Type 0 = λ x. solve_flat (length f.equations) f ≡ solve_flat (length x.equations) x in
     subst P (sym h) (solve_flat_more f s i lt e ∙ ap (λ n. solve_flat n (solve_picked f p)) (solve_picked_length f p))

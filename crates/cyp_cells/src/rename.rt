@@ -28,16 +28,33 @@ fn renamed_term(numbers: &[u8], term: FlatTerm) -> FlatTerm
     }
 }
 
+fn renamed_cell(numbers: &[u8], cell: FlatCell) -> FlatCell
+    requires { length numbers.now ≤ 32 }
+    ensures { result ≡ rename_cell numbers.now cell }
+{
+    FlatCell {
+        at: renamed_term(numbers, cell.at),
+        content: renamed_term(numbers, cell.content),
+    }
+}
+
+fn renamed_equation(numbers: &[u8], equation: FlatEquation) -> FlatEquation
+    requires { length numbers.now ≤ 32 }
+    ensures { result ≡ rename_equation numbers.now equation }
+{
+    FlatEquation {
+        left: renamed_term(numbers, equation.left),
+        right: renamed_term(numbers, equation.right),
+    }
+}
+
 fn renamed_cells(numbers: &[u8], cells: List<FlatCell>) -> List<FlatCell>
     requires { length numbers.now ≤ 32 }
     ensures { result ≡ map (rename_cell numbers.now) cells }
 {
     let mut cells = cells.into_vec();
     for cell in cells.iter_mut() {
-        *cell = FlatCell {
-            at: renamed_term(numbers, cell.at),
-            content: renamed_term(numbers, cell.content),
-        };
+        *cell = renamed_cell(numbers, *cell);
     }
     List::from_vec(cells)
 }
@@ -48,10 +65,7 @@ fn renamed_equations(numbers: &[u8], equations: List<FlatEquation>) -> List<Flat
 {
     let mut equations = equations.into_vec();
     for equation in equations.iter_mut() {
-        *equation = FlatEquation {
-            left: renamed_term(numbers, equation.left),
-            right: renamed_term(numbers, equation.right),
-        };
+        *equation = renamed_equation(numbers, *equation);
     }
     List::from_vec(equations)
 }

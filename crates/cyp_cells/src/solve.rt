@@ -34,7 +34,7 @@ fn solved(exist: &[u8], equation: FlatEquation) -> Option<Solution>
 }
 
 /// The place of the first equation that can be solved.
-#[tactic(auto, using(crate::proofs::Picking::pick_first_more, crate::proofs::Picking::pick_first_found, crate::proofs::Picking::behind_none))]
+#[tactic(auto, using(crate::proofs::Picking::pick_first_more))]
 fn first_solved(exist: &[u8], equations: &[FlatEquation]) -> Option<(usize, Solution)>
     ensures within { IfSome result (λ p. p.0 < length equations.now) }
     ensures picked { option_map (λ p. record { solution = p.1; rest = remove equations.now p.0 }) result ≡ pick_first exist.now equations.now }
@@ -56,15 +56,30 @@ fn put_in_term(by: Solution, term: FlatTerm) -> FlatTerm
     }
 }
 
+fn put_in_cell(by: Solution, cell: FlatCell) -> FlatCell
+    ensures { result ≡ put_cell by.var by.to cell }
+{
+    FlatCell {
+        at: put_in_term(by, cell.at),
+        content: put_in_term(by, cell.content),
+    }
+}
+
+fn put_in_equation(by: Solution, equation: FlatEquation) -> FlatEquation
+    ensures { result ≡ put_equation by.var by.to equation }
+{
+    FlatEquation {
+        left: put_in_term(by, equation.left),
+        right: put_in_term(by, equation.right),
+    }
+}
+
 fn put_in_cells(by: Solution, cells: List<FlatCell>) -> List<FlatCell>
     ensures { result ≡ map (put_cell by.var by.to) cells }
 {
     let mut cells = cells.into_vec();
     for cell in cells.iter_mut() {
-        *cell = FlatCell {
-            at: put_in_term(by, cell.at),
-            content: put_in_term(by, cell.content),
-        };
+        *cell = put_in_cell(by, *cell);
     }
     List::from_vec(cells)
 }
@@ -74,10 +89,7 @@ fn put_in_equations(by: Solution, equations: List<FlatEquation>) -> List<FlatEqu
 {
     let mut equations = equations.into_vec();
     for equation in equations.iter_mut() {
-        *equation = FlatEquation {
-            left: put_in_term(by, equation.left),
-            right: put_in_term(by, equation.right),
-        };
+        *equation = put_in_equation(by, *equation);
     }
     List::from_vec(equations)
 }
