@@ -56,7 +56,10 @@ pub(crate) fn add_cells(numbers: &mut Vec<u8>, cells: &[FlatCell]) -> Result<(),
 
 /// Adds each number of the equations that isn't there yet.
 #[tactic(auto, using(crate::proofs::Collecting::joined_append))]
-pub(crate) fn add_equations(numbers: &mut Vec<u8>, equations: &[FlatEquation]) -> Result<(), NoMemory>
+pub(crate) fn add_equations(
+    numbers: &mut Vec<u8>,
+    equations: &[FlatEquation],
+) -> Result<(), NoMemory>
     ensures { OnOk result (numbers.new.items ≡ joined numbers.old.items (equations_numbers equations.now)) }
 {
     for equation in equations {

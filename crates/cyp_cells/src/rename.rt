@@ -86,7 +86,14 @@ pub(crate) fn rename(alloc: Global, numbers: &[u8], goal: Flat) -> Result<FlatRe
     requires { length numbers.now ≤ 32 }
     ensures { IfOk result (λ r. r ≡ record { flat = rename_flat numbers.now goal; old = goal.program }) }
 {
-    let Flat { program, exist, positive, pre, equations, post } = goal;
+    let Flat {
+        program,
+        exist,
+        positive,
+        pre,
+        equations,
+        post,
+    } = goal;
     let flat = Flat {
         program: renamed_numbers(alloc, numbers, program.as_slice())?,
         exist: renamed_numbers(alloc, numbers, exist.as_slice())?,

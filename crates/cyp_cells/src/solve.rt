@@ -99,7 +99,14 @@ fn solve_at(goal: Flat, place: usize, by: Solution) -> Flat
     requires { place < length goal.equations }
     ensures { result ≡ solve_picked goal (record { solution = by; rest = remove goal.equations place }) }
 {
-    let Flat { program, exist, positive, pre, mut equations, post } = goal;
+    let Flat {
+        program,
+        exist,
+        positive,
+        pre,
+        mut equations,
+        post,
+    } = goal;
     let _solved = equations.remove(place);
     Flat {
         program,

@@ -25,7 +25,9 @@ fn add_addresses(numbers: &mut Vec<u8>, cells: &[FlatCell]) -> Result<(), NoMemo
 fn is_there(equation: FlatEquation, equations: &[FlatEquation]) -> bool
     ensures { result ≡ list_any (same_equation equation) equations.now }
 {
-    equations.iter().any(|other| is_same_equation(equation, *other))
+    equations
+        .iter()
+        .any(|other| is_same_equation(equation, *other))
 }
 
 /// Adds an equation that isn't there yet.
@@ -39,7 +41,10 @@ fn add_equation(equations: &mut Vec<FlatEquation>, equation: FlatEquation) -> Re
 }
 
 /// The equations that say something, each once.
-fn telling_equations(alloc: Global, equations: &[FlatEquation]) -> Result<List<FlatEquation>, NoMemory>
+fn telling_equations(
+    alloc: Global,
+    equations: &[FlatEquation],
+) -> Result<List<FlatEquation>, NoMemory>
     ensures { IfOk result (λ es. es ≡ without_repeats same_equation (filter (λ e. not (is_alike e)) equations.now)) }
 {
     let mut telling = Vec::new(alloc);
@@ -56,7 +61,14 @@ fn telling_equations(alloc: Global, equations: &[FlatEquation]) -> Result<List<F
 pub(crate) fn tidy(alloc: Global, goal: Flat) -> Result<Flat, NoMemory>
     ensures { IfOk result (λ f. f ≡ tidy_flat goal) }
 {
-    let Flat { program, exist, positive, pre, equations, post } = goal;
+    let Flat {
+        program,
+        exist,
+        positive,
+        pre,
+        equations,
+        post,
+    } = goal;
     let mut numbers = Vec::new(alloc);
     add_all(&mut numbers, positive.as_slice())?;
     add_addresses(&mut numbers, pre.as_slice())?;
