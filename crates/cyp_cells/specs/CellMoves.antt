@@ -1,5 +1,5 @@
 -- The moves of a goal of cells alone that is in normal form and has no equation.
-use Rattle.std.specs.Prelude.{[], ◌&&◌, ◌++◌, ◌==◌, Bool, IsTrue, List, None, Option, Some, cond, count_by, false, filter_map, length, map, max, nat_le, not, option_to_list, slice_get, slice_set, suc, true, zero, ◌||◌, ℕ, ◌∷◌, ◌≡◌}
+use Rattle.std.specs.Prelude.{[], ◌&&◌, ◌++◌, ◌==◌, Bool, IsTrue, List, None, Option, Some, cond, count_by, false, filter_map, length, map, max, nat_le, nat_lt, not, option_to_list, slice_get, slice_set, suc, true, zero, ◌||◌, ℕ, ◌∷◌, ◌≡◌}
 use Rattle.std.specs.List.{list_all, list_any}
 use Rattle.std.specs.Option.{option_and_then}
 use Rattle.cyp_cells.specs.CellNormal.{is_flat_within, normal_flat, put_cell}
@@ -166,6 +166,10 @@ is_small (Number n) = nat_le n 4294967296
 abbrev pub is_small_cell : FlatCell → Bool
 is_small_cell c = is_small c.at && is_small c.content
 
+-- numbers of variables are below 32
+abbrev pub is_numbered : Flat → Bool
+is_numbered f = list_all (λ v. nat_lt v 32) (all_numbers f)
+
 -- what each goal of a search of cells alone keeps
 pub record IsCells (f : Flat) : Type 0 where
   -- addresses of the precondition are variables, and numbers are at most 2^32
@@ -178,3 +182,5 @@ pub record IsCells (f : Flat) : Type 0 where
   pub clear : f.equations ≡ []
   -- no limit of a node is passed
   pub within : IsTrue (is_flat_within f)
+  -- numbers of variables are places among at most 32
+  pub numbered : IsTrue (is_numbered f)

@@ -2,3 +2,4 @@ pub mod Cells
 pub mod CellMoves
 pub mod CellNormal
 pub mod Collected
+pub mod FlatAlts

@@ -3,17 +3,24 @@
 //! general layers take such goals too.
 #![tactic(auto)]
 
+mod alt;
+mod facts;
 mod flat;
+mod moves;
 mod node;
 mod normal;
 mod numbers;
 mod prune;
+mod reads;
+mod stores;
 mod rename;
 mod solve;
 mod terms;
 mod tidy;
 
+pub use alt::FlatAlt;
 pub use flat::{Flat, FlatCell, FlatEquation, FlatRenaming, FlatTerm};
+pub use moves::flat_moves;
 pub use node::CellsNode;
 pub use normal::normal_flat;
 pub use solve::Solution;

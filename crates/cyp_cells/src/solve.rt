@@ -74,7 +74,7 @@ fn put_in_equation(by: Solution, equation: FlatEquation) -> FlatEquation
     }
 }
 
-fn put_in_cells(by: Solution, cells: List<FlatCell>) -> List<FlatCell>
+pub(crate) fn put_in_cells(by: Solution, cells: List<FlatCell>) -> List<FlatCell>
     ensures { result ≡ map (put_cell by.var by.to) cells }
 {
     let mut cells = cells.into_vec();
