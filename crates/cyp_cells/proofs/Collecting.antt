@@ -1,8 +1,9 @@
 -- Lists of numbers that are collected, each once.
 use Rattle.std.proofs.Common.{◌≡◌, ◌==◌, ℕ, Bool, true, false, ◌||◌, cond, List, [], ◌∷◌, ◌++◌, refl, sym, ap, ◌∙◌, arith}
 use Rattle.std.proofs.lemmas.Bool.Decides.{nat_tests}
-use Rattle.std.proofs.lemmas.List.Folds.{list_any-append}
-use Rattle.std.specs.List.{list_any, filter}
+use Rattle.std.proofs.lemmas.Bool.{and_parts}
+use Rattle.std.proofs.lemmas.List.Folds.{list_all-append, list_any-append}
+use Rattle.std.specs.List.{list_all}
 use Rattle.cyp_term.specs.Terms.{with_new}
 use Rattle.cyp_cells.specs.Cells.{among, once}
 use Rattle.cyp_cells.specs.CellNormal.{only}
@@ -49,3 +50,17 @@ joined_once vs ws = joined_joined vs [] ws
 pub only_once : (wanted vs : List ℕ) → only (once wanted) vs ≡ only wanted vs
 only_once wanted [] = refl
 only_once wanted (v ∷ vs) = grind (arith, among_joined v [] wanted, only_once wanted vs)
+
+list_all-new_by : (p : ℕ → Bool) (vs : List ℕ) (w : ℕ) (b : Bool) → list_all p vs ≡ true → p w ≡ true → list_all p (cond b vs (vs ++ w ∷ [])) ≡ true
+list_all-new_by p vs w true h e = h
+list_all-new_by p vs w false h e = grind (arith, list_all-append p vs (w ∷ []))
+
+-- what holds of each number of both lists
+list_all-joined : (p : ℕ → Bool) (vs ws : List ℕ) → list_all p vs ≡ true → list_all p ws ≡ true → list_all p (joined vs ws) ≡ true
+list_all-joined p vs [] h e = h
+list_all-joined p vs (w ∷ ws) h e =
+    let q = and_parts (p w) (list_all p ws) e in
+    list_all-joined p (with_new (λ x y. x == y) vs w) ws (list_all-new_by p vs w (among w vs) h q.0) q.1
+
+pub list_all-once : (p : ℕ → Bool) (ws : List ℕ) → list_all p ws ≡ true → list_all p (once ws) ≡ true
+list_all-once p ws e = list_all-joined p [] ws refl e

@@ -1,4 +1,4 @@
-ghost use Rattle.std.specs.Prelude.{◌≡◌, [], ◌∷◌, IfOk, length, map, option_map, option_to_list};
+ghost use Rattle.std.specs.Prelude.{◌≡◌, [], ◌++◌, ◌∷◌, IfOk, OnOk, length, map, option_map, option_to_list};
 ghost use Rattle.cyp_cells.specs.CellMoves.{IsCells, flat_moves, frame_row, frame_rows, heap_moves, last_row, read_row, read_rows_from, write_rows};
 ghost use Rattle.cyp_cells.specs.FlatAlts.{IsCounted, plain_alt};
 
@@ -23,6 +23,15 @@ fn end_row(alloc: Global, rule: Rule) -> Result<List<FlatAlt>, NoMemory>
     ensures { IfOk result (λ rows. map plain_alt rows ≡ last_row rule) }
 {
     only_row(alloc, FlatAlt { rule, premise: None })
+}
+
+fn add_row(rows: &mut Vec<FlatAlt>, found: Option<FlatAlt>) -> Result<(), NoMemory>
+    ensures { OnOk result (map plain_alt rows.new.items ≡ map plain_alt rows.old.items ++ option_to_list (option_map plain_alt found)) }
+{
+    if let Some(more) = found {
+        rows.push(more)?;
+    }
+    Ok(())
 }
 
 fn row_of_read(alloc: Global, goal: &Flat, place: u8) -> Result<Option<FlatAlt>, NoMemory>
@@ -60,10 +69,7 @@ fn rows_of_frames(alloc: Global, goal: &Flat) -> Result<Vec<FlatAlt>, NoMemory>
 {
     let mut rows = Vec::new(alloc);
     for place in 0..goal.pre.len() {
-        let found = row_of_frame(alloc, goal, place as u8)?;
-        if let Some(frame) = found {
-            rows.push(frame)?;
-        }
+        add_row(&mut rows, row_of_frame(alloc, goal, place as u8)?)?;
     }
     Ok(rows)
 }
@@ -93,10 +99,7 @@ fn moves_of_heaps(alloc: Global, goal: &Flat) -> Result<List<FlatAlt>, NoMemory>
         return only_row(alloc, read);
     }
     let mut rows = rows_of_frames(alloc, goal)?;
-    let write = row_of_write(alloc, goal)?;
-    if let Some(write) = write {
-        rows.push(write)?;
-    }
+    add_row(&mut rows, row_of_write(alloc, goal)?)?;
     Ok(List::from_vec(rows))
 }
 
