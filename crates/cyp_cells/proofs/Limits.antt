@@ -9,7 +9,8 @@ use Rattle.cyp_cells.specs.Cells.{all_numbers, among, once}
 use Rattle.cyp_cells.specs.CellNormal.{finish_flat, is_flat_within, number_flat, place_in, prune_flat, rename_flat, tidy_flat}
 use Rattle.cyp_cells.proofs.Renaming.{all_among_once, all_numbers-rename_flat, once-map_place, place_from_within}
 
-renamed_count : (f : Flat) → length (once (all_numbers (number_flat f))) ≡ length (once (all_numbers f))
+-- as many numbers under new numbers
+pub renamed_count : (f : Flat) → length (once (all_numbers (number_flat f))) ≡ length (once (all_numbers f))
 renamed_count f =
     ap (λ vs. length (once vs)) (all_numbers-rename_flat (once (all_numbers f)) f) ∙ ap length (once-map_place (all_numbers f))
     ∙ length-map (once (all_numbers f)) (place_in (once (all_numbers f)))

@@ -1,6 +1,8 @@
-ghost use Rattle.std.specs.Prelude.{◌≡◌};
+ghost use Rattle.std.specs.Prelude.{◌≡◌, ◌≤◌};
 
 use crate::flat::Flat;
+use cyp_term::{Copied, NoMemory};
+use std::alloc::Global;
 use std::marker::Model;
 
 /// A goal of cells alone that a search keeps. Contracts see the node that it stands for.
@@ -23,11 +25,37 @@ impl Model for CellsNode {
 
 impl CellsNode {
     ghost use Rattle.cyp_cells.specs.Cells.{node_of};
+    ghost use Rattle.cyp_cells.specs.CellMoves.{IsCells};
+    ghost use Rattle.cyp_moves.specs.Moves.{weight};
+
+    pub fn new(flat: Flat) -> CellsNode
+        requires { IsCells flat }
+        ensures { result ≡ node_of flat }
+    {
+        CellsNode { flat }
+    }
 
     /// The small value behind the node.
     pub fn flat(&self) -> &Flat
-        ensures { node_of result.now ≡ self.now }
+        ensures same { node_of result.now ≡ self.now }
+        ensures cells { IsCells result.now }
     {
         &self.flat
+    }
+
+    /// The chunks of the precondition, and twice those of the postcondition.
+    #[tactic(auto, using(crate::proofs::Bounds::weight_node_of, crate::proofs::Bounds::counted_cells))]
+    pub fn weight(&self) -> u32
+        ensures value { result ≡ weight self.now }
+        ensures most { result ≤ 48 }
+    {
+        self.flat.pre.len() as u32 + 2 * self.flat.post.len() as u32
+    }
+}
+
+impl Copied for CellsNode {
+    fn copy(&self, alloc: Global) -> Result<CellsNode, NoMemory> {
+        let flat = self.flat.copy(alloc)?;
+        Ok(CellsNode { flat })
     }
 }
