@@ -16,7 +16,11 @@ pub struct FlatAlt {
 }
 
 /// The rule's row where what it leaves has a normal form without equations.
-pub(crate) fn row(alloc: Global, rule: Rule, left: Option<Flat>) -> Result<Option<FlatAlt>, NoMemory>
+pub(crate) fn row(
+    alloc: Global,
+    rule: Rule,
+    left: Option<Flat>,
+) -> Result<Option<FlatAlt>, NoMemory>
     ensures { IfOk result (λ a. option_map plain_alt a ≡ flat_row rule left) }
 {
     let Some(left) = left else {

@@ -117,6 +117,7 @@ pub(crate) fn occurs_twice(goal: &Flat, number: u8) -> bool
     requires { IsCounted goal.now }
     ensures { result ≡ nat_le 2 (occurrences goal.now number) }
 {
-    let in_cells = count_in_cells(number, goal.pre.as_slice()) + count_in_cells(number, goal.post.as_slice());
+    let in_cells = count_in_cells(number, goal.pre.as_slice())
+        + count_in_cells(number, goal.post.as_slice());
     in_cells >= 2 || in_cells + count_in_numbers(number, goal.positive.as_slice()) >= 2
 }

@@ -12,9 +12,9 @@ mod normal;
 mod numbers;
 mod prune;
 mod reads;
-mod stores;
 mod rename;
 mod solve;
+mod stores;
 mod terms;
 mod tidy;
 
@@ -24,3 +24,6 @@ pub use moves::flat_moves;
 pub use node::CellsNode;
 pub use normal::normal_flat;
 pub use solve::Solution;
+
+#[cfg(test)]
+mod tests;

@@ -22,7 +22,13 @@ fn only_row(alloc: Global, only: FlatAlt) -> Result<List<FlatAlt>, NoMemory>
 fn end_row(alloc: Global, rule: Rule) -> Result<List<FlatAlt>, NoMemory>
     ensures { IfOk result (λ rows. map plain_alt rows ≡ last_row rule) }
 {
-    only_row(alloc, FlatAlt { rule, premise: None })
+    only_row(
+        alloc,
+        FlatAlt {
+            rule,
+            premise: None,
+        },
+    )
 }
 
 fn add_row(rows: &mut Vec<FlatAlt>, found: Option<FlatAlt>) -> Result<(), NoMemory>

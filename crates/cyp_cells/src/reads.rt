@@ -46,10 +46,10 @@ fn put_in_numbers(alloc: Global, var: u8, new: u8, numbers: &[u8]) -> Result<Lis
 fn with_read(alloc: Global, goal: &Flat, var: u8) -> Result<Flat, NoMemory>
     requires { IsCounted goal.now }
     ensures { let y : ℕ = new_number goal.now in IfOk result (λ f. f ≡ record goal.now {
-        program = goal.now.program ++ y ∷ [];
-        positive = map (λ w. cond (var == w) y w) goal.now.positive;
-        pre = map (put_cell var (Named y)) goal.now.pre;
-        post = map (put_cell var (Named y)) goal.now.post;
+      program = goal.now.program ++ y ∷ [];
+      positive = map (λ w. cond (var == w) y w) goal.now.positive;
+      pre = map (put_cell var (Named y)) goal.now.pre;
+      post = map (put_cell var (Named y)) goal.now.post;
     }) }
 {
     let new = free_number(alloc, goal)?;
@@ -75,7 +75,8 @@ fn read(alloc: Global, goal: &Flat, content: FlatTerm) -> Result<Option<Flat>, N
     ensures { IfOk result (λ f. f ≡ read_content goal.now content) }
 {
     match content {
-        FlatTerm::Named(var) if !is_among(var, goal.program.as_slice()) && occurs_twice(goal, var) => {
+        FlatTerm::Named(var)
+            if !is_among(var, goal.program.as_slice()) && occurs_twice(goal, var) => {
             Ok(Some(with_read(alloc, goal, var)?))
         }
         _ => Ok(None),

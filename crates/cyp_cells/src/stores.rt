@@ -16,7 +16,11 @@ fn without(alloc: Global, cells: &List<FlatCell>, place: usize) -> Result<List<F
     Ok(left)
 }
 
-fn equations_of(alloc: Global, focus: FlatCell, cell: FlatCell) -> Result<List<FlatEquation>, NoMemory>
+fn equations_of(
+    alloc: Global,
+    focus: FlatCell,
+    cell: FlatCell,
+) -> Result<List<FlatEquation>, NoMemory>
     ensures { IfOk result (λ es. es ≡ record { left = focus.at; right = cell.at } ∷ record { left = focus.content; right = cell.content } ∷ []) }
 {
     let mut equations = Vec::with_capacity(alloc, 2)?;
@@ -55,17 +59,30 @@ pub(crate) fn frame_cell(alloc: Global, goal: &Flat, place: usize) -> Result<Opt
 }
 
 /// What is left where the focus's content is stored in the cell at this place.
-pub(crate) fn write_cell(alloc: Global, goal: &Flat, place: usize, focus: FlatCell, cell: FlatCell) -> Result<Option<Flat>, NoMemory>
+pub(crate) fn write_cell(
+    alloc: Global,
+    goal: &Flat,
+    place: usize,
+    focus: FlatCell,
+    cell: FlatCell,
+) -> Result<Option<Flat>, NoMemory>
     requires { place < length goal.now.pre }
     ensures { IfOk result (λ f. f ≡ write_at goal.now place focus cell) }
 {
-    if is_existential(goal, focus.at) || !is_known(goal, cell.at) || !is_known(goal, focus.content) || is_same(focus.content, cell.content) {
+    if is_existential(goal, focus.at)
+        || !is_known(goal, cell.at)
+        || !is_known(goal, focus.content)
+        || is_same(focus.content, cell.content)
+    {
         return Ok(None);
     }
     let mut left = goal.copy(alloc)?;
-    let _old = left.pre.set(place, FlatCell {
-        at: cell.at,
-        content: focus.content,
-    });
+    let _old = left.pre.set(
+        place,
+        FlatCell {
+            at: cell.at,
+            content: focus.content,
+        },
+    );
     Ok(Some(left))
 }
