@@ -168,6 +168,10 @@ is_small_cell c = is_small c.at && is_small c.content
 abbrev pub is_numbered : Flat → Bool
 is_numbered f = list_all (λ v. nat_lt v 32) (all_numbers f)
 
+-- each existential stands in the postcondition
+abbrev pub are_used : Flat → Bool
+are_used f = list_all (λ v. among v (cells_numbers f.post)) f.exist
+
 -- what each goal of a search of cells alone keeps
 pub record IsCells (f : Flat) : Type 0 where
   -- addresses of the precondition are variables, and numbers are at most 2^32
@@ -182,3 +186,5 @@ pub record IsCells (f : Flat) : Type 0 where
   pub within : IsTrue (is_flat_within f)
   -- numbers of variables are places among at most 32
   pub numbered : IsTrue (is_numbered f)
+  -- each existential stands in the postcondition
+  pub used : IsTrue (are_used f)

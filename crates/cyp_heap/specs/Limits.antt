@@ -1,6 +1,6 @@
 -- The limits of a node, and its units.
 use Rattle.std.specs.Prelude.{[], ◌&&◌, ◌*◌, ◌+◌, ◌++◌, Bool, List, filter, flat_map, length, map, nat_le, not, sum_by, ℕ}
-use Rattle.cyp_heap.specs.Goals.{node_vars}
+use Rattle.cyp_heap.specs.Goals.{goal_vars, node_vars}
 use Rattle.cyp_heap.specs.declared.chunk.Arg.{Arg}
 use Rattle.cyp_heap.specs.declared.chunk.Arg.TheVariants.{Int as IntArg, Set as SetArg}
 use Rattle.cyp_heap.specs.declared.chunk.Chunk.{Chunk}
@@ -8,12 +8,14 @@ use Rattle.cyp_heap.specs.declared.chunk.Chunk.TheVariants.{Block, Cell, Inst}
 use Rattle.cyp_heap.specs.declared.goal.Goal.{Goal}
 use Rattle.cyp_heap.specs.declared.goal.Link.{Link}
 use Rattle.cyp_heap.specs.declared.goal.Node.{Node}
-use Rattle.cyp_term.specs.Terms.{is_set_var, lit_elements, term_eq, without_repeats}
+use Rattle.cyp_term.specs.Terms.{is_set_var, lit_elements, sort_eq, term_eq, var_eq, without_repeats}
 use Rattle.cyp_term.specs.declared.lit.Lit.{Lit}
 use Rattle.cyp_term.specs.declared.lit.Lit.TheVariants.{Member, NotMember, NotSame, NotSub, Same, Sub}
 use Rattle.cyp_term.specs.declared.lit.SetTerm.{SetTerm}
 use Rattle.cyp_term.specs.declared.subst.SetBind.{SetBind}
+use Rattle.cyp_term.specs.declared.term.Sort.TheVariants.{Int}
 use Rattle.cyp_term.specs.declared.term.Term.{Term}
+use Rattle.cyp_term.specs.declared.term.Var.{Var}
 
 abbrev pub arg_elements : Arg → List Term
 arg_elements (IntArg t) = []
@@ -72,3 +74,14 @@ is_within_limits n =
     && nat_le (length (without_repeats term_eq (goal_elements n.goal))) 6
     && nat_le (length n.links) 4
     && nat_le (node_units n) 240
+
+-- no limit of a goal as it is written is passed
+abbrev pub is_goal_within : Goal → Bool
+is_goal_within g =
+    let vs : List Var = without_repeats var_eq (goal_vars g) in
+    nat_le (length g.pre.chunks) 16 && nat_le (length g.post.chunks) 16
+    && nat_le (length g.pure_pre) 40 && nat_le (length g.pure_post) 40
+    && nat_le (length g.program) 12
+    && nat_le (length (filter (λ (v : Var). sort_eq v.sort Int) vs)) 64
+    && nat_le (length (filter is_set_var vs)) 32
+    && nat_le (length (without_repeats term_eq (goal_elements g))) 32

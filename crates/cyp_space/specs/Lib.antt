@@ -1,1 +1,4 @@
 pub mod Alts
+pub mod Counts
+pub mod SettingsValue
+pub mod Stops

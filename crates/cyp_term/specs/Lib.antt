@@ -2,7 +2,9 @@ pub mod formers
 pub mod Entailment
 pub mod Exactly
 pub mod ExactLits
+pub mod Integers
 pub mod Meaning
+pub mod Regions
 pub mod Room
 pub mod SetTermValue
 pub mod TermValue

@@ -4,6 +4,7 @@
 
 mod copied;
 mod fail;
+mod laws;
 mod list;
 mod lit;
 mod roomy;
@@ -14,6 +15,9 @@ mod term;
 
 pub use copied::{Copied, Exact};
 pub use fail::{Fail, NoMemory};
+pub use laws::{
+    applied_truth, decides_entailed, decides_integers, decides_regions, decides_satisfiable,
+};
 pub use list::{List, Text};
 pub use lit::{Lit, SetTerm};
 pub use roomy::Roomy;

@@ -1,0 +1,2 @@
+//! The goal of a flat text.
+#![tactic(auto)]

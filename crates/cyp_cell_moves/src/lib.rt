@@ -1,0 +1,2 @@
+//! Goals of cells alone as a space of search: their moves are those of the move table.
+#![tactic(auto)]

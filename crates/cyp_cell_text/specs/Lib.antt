@@ -1,0 +1,4 @@
+pub mod Exact
+pub mod FlatText
+pub mod Lexemes
+pub mod Reading

@@ -1,0 +1,115 @@
+-- The program that a derivation stands for.
+use Rattle.std.specs.Prelude.{[], ◌&&◌, ◌*◌, ◌+◌, ◌++◌, ◌-◌, ◌==◌, Bool, List, None, Option, Some, cond, decimal, false, length, map, nat_le, not, suc, true, zip, ℕ, ◌∷◌}
+use Rattle.std.specs.List.{list_all}
+use Rattle.cyp_goal.specs.Normal.{Renaming}
+use Rattle.cyp_heap.specs.declared.goal.Node.{Node}
+use Rattle.cyp_kernel.specs.Companions.{Proof, Proofs, called_count, is_called}
+use Rattle.cyp_kernel.specs.Naming.{Names, expr_of, name_of, param_names}
+use Rattle.cyp_kernel.specs.Statements.{rule_body}
+use Rattle.cyp_prog.specs.Programs.{Body, End, Invoking, Procedure, Then}
+use Rattle.cyp_tree.specs.Derivations.{Derived, More, NoMore}
+use Rattle.cyp_step.specs.Changes.{new_int}
+use Rattle.cyp_step.specs.Step.{renamed_premises}
+use Rattle.cyp_step.specs.declared.rule.Rule.{Rule}
+use Rattle.cyp_step.specs.declared.rule.Rule.TheVariants.{ByAlloc, ByOpen, ByRead}
+use Rattle.cyp_term.specs.Terms.{var_term}
+
+-- whether the rule binds a new program variable
+abbrev pub is_binder : Rule → Bool
+is_binder (ByRead i) = true
+is_binder ByAlloc = true
+is_binder r = false
+
+abbrev pub with_new_name : Node → Rule → ℕ → Names → Names
+with_new_name n r new names = cond (is_binder r) (names ++ (new_int n, new) ∷ []) names
+
+abbrev pub bound_count : Rule → ℕ → ℕ
+bound_count r m = cond (is_binder r) (suc m) m
+
+-- the premise's program variables are called what the node called them
+abbrev pub renamed_names : Names → Renaming → Names
+renamed_names names r = zip r.node.goal.program (map (name_of names) r.old)
+
+abbrev pub renamings : Option (List Renaming) → List Renaming
+renamings None = []
+renamings (Some rs) = rs
+
+-- the procedures of the links at the premises
+abbrev pub with_proc : Rule → ℕ → List ℕ → List ℕ
+with_proc (ByOpen i) self procs = procs ++ self ∷ []
+with_proc r self procs = procs
+
+abbrev pub head_names : Names → List Renaming → Names
+head_names names [] = []
+head_names names (r ∷ rs) = renamed_names names r
+
+abbrev pub tail_renamings : List Renaming → List Renaming
+tail_renamings [] = []
+tail_renamings (r ∷ rs) = rs
+
+-- ---- the body of a derivation
+
+abbrev mutual
+  -- `top` where this node begins the procedure `self`; `next` is the number of the next procedure below, `m` counts parameters and binders on the path
+  pub body : Bool → ℕ → ℕ → Names → ℕ → List ℕ → Proof → Body
+  body top self next names m procs (Derived n r ps) =
+      elim (not top && is_called n r ps) [
+        | true ↦ Then (Invoking next (map (λ v. expr_of names (var_term v)) n.goal.program)) End
+        | false ↦ rule_body n names procs (suc m) r
+            (bodies next (with_new_name n r (suc m) names) (renamings (renamed_premises n r)) (bound_count r m) (with_proc r self procs) ps)
+      ]
+
+  pub bodies : ℕ → Names → List Renaming → ℕ → List ℕ → Proofs → List Body
+  bodies next names rs m procs NoMore = []
+  bodies next names rs m procs (More d ds) =
+      body false 0 next (head_names names rs) m procs d ∷ bodies (next + called_count d) names (tail_renamings rs) m procs ds
+
+-- the body of the procedure of this number that begins at the derivation
+abbrev pub procedure_body : ℕ → List ℕ → Proof → Body
+procedure_body self procs (Derived n r ps) = body true self (suc self) (param_names n) (length n.goal.program) procs (Derived n r ps)
+
+-- ---- procedures
+
+-- the main name, `_` and a number
+abbrev pub auxiliary_name : List ℕ → ℕ → List ℕ
+auxiliary_name main k = main ++ (95 ∷ decimal k)
+
+abbrev pub procedure : List ℕ → ℕ → List ℕ → Proof → Procedure
+procedure name self procs (Derived n r ps) =
+    record { name = name; params = length n.goal.program; body = procedure_body self procs (Derived n r ps) }
+
+abbrev mutual
+  -- the procedures of called companions in preorder, numbered from `next` on
+  pub procedures : List ℕ → ℕ → List ℕ → Proof → List Procedure
+  procedures main next procs (Derived n r ps) =
+      elim (is_called n r ps) [
+        | true ↦ procedure (auxiliary_name main next) next procs (Derived n r ps) ∷ procedures_in main (suc next) (with_proc r next procs) ps
+        | false ↦ procedures_in main next (with_proc r 0 procs) ps
+      ]
+
+  pub procedures_in : List ℕ → ℕ → List ℕ → Proofs → List Procedure
+  procedures_in main next procs NoMore = []
+  procedures_in main next procs (More d ds) = procedures main next procs d ++ procedures_in main (next + called_count d) procs ds
+
+-- ---- names that are variables
+
+abbrev pub is_digit : ℕ → Bool
+is_digit c = nat_le 48 c && nat_le c 57
+
+abbrev pub number_of : ℕ → List ℕ → ℕ
+number_of n [] = n
+number_of n (c ∷ cs) = number_of (10 * n + (c - 48)) cs
+
+-- `v` and a number from 1 to 65535 without leading zeros
+abbrev pub is_variable_name : List ℕ → Bool
+is_variable_name (v ∷ d ∷ cs) =
+    (v == 118) && list_all is_digit (d ∷ cs) && not (d == 48) && nat_le (number_of 0 (d ∷ cs)) 65535
+is_variable_name _ = false
+
+abbrev pub main_name : List ℕ → List ℕ
+main_name name = cond (is_variable_name name) (name ++ 95 ∷ 48 ∷ []) name
+
+-- the program: the main procedure, and one for each other called companion
+abbrev pub program_of : List ℕ → Proof → List Procedure
+program_of name (Derived n r ps) =
+    procedure (main_name name) 0 [] (Derived n r ps) ∷ procedures_in (main_name name) 1 (with_proc r 0 []) ps

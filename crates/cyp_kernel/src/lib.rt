@@ -1,0 +1,2 @@
+//! Derivations of goals, and the program that one stands for: definitions.
+#![tactic(auto)]

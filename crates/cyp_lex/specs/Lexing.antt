@@ -1,0 +1,133 @@
+-- Which tokens a text has, and its first fault.
+use Rattle.std.specs.Prelude.{◌≡◌, ◌≤◌, ◌<◌, ℕ, zero, suc, ◌+◌, ◌-◌, ◌*◌, ◌==◌, Bool, true, false, cond, not, ◌&&◌, ◌||◌, List, [], ◌∷◌, length, take, drop, nat_le, Option, Some, None, Result, Ok, Err, codes}
+use Rattle.std.specs.List.{prefix_len}
+use Rattle.std.specs.Str.{bytes_eq}
+use Rattle.cyp_term.specs.declared.fail.Fail.{Fail}
+use Rattle.cyp_term.specs.declared.fail.Fail.TheVariants.{Named, NoMemory}
+use Rattle.cyp_lex.specs.declared.token.Word.{Word}
+use Rattle.cyp_lex.specs.declared.token.Word.TheVariants.{Predicate, Void, Loc, Int, Set, Emp, True, Not, In, If, Else, Let, Malloc, Free, Error}
+use Rattle.cyp_lex.specs.declared.token.Sign.{Sign}
+use Rattle.cyp_lex.specs.declared.token.Sign.TheVariants.{PointsTo, Subset, TwoStars, TwoPluses, Implies, Equal, Unequal, AtMost, AtLeast, SlashAnd, AndAnd, Same, Less, Greater, LeftParen, RightParen, LeftBrace, RightBrace, LeftBracket, RightBracket, Comma, Semicolon, Bar, Plus, Minus}
+use Rattle.cyp_lex.specs.declared.token.TokenKind.{TokenKind}
+use Rattle.cyp_lex.specs.declared.token.TokenKind.TheVariants as kinds
+use Rattle.cyp_lex.specs.declared.token.Token.{Token}
+use Rattle.cyp_lex.specs.declared.fault.FaultKind.TheVariants.{BadByte, NumberRange}
+use Rattle.cyp_lex.specs.declared.fault.Fault.{Fault}
+use Rattle.cyp_lex.specs.declared.lexer.Piece.{Piece}
+use Rattle.cyp_lex.specs.declared.lexer.Piece.TheVariants.{Blank, Begun, Bad}
+use Rattle.cyp_lex.specs.Spelled.{word_text, sign_text}
+
+abbrev pub words : List Word
+words = Predicate ∷ Void ∷ Loc ∷ Int ∷ Set ∷ Emp ∷ True ∷ Not ∷ In ∷ If ∷ Else ∷ Let ∷ Malloc ∷ Free ∷ Error ∷ []
+
+-- the longest first
+abbrev pub signs : List Sign
+signs =
+    PointsTo ∷ Subset ∷ TwoStars ∷ TwoPluses ∷ Implies ∷ Equal ∷ Unequal ∷ AtMost ∷ AtLeast ∷ SlashAnd ∷ AndAnd ∷ Same ∷ Less ∷ Greater
+    ∷ LeftParen ∷ RightParen ∷ LeftBrace ∷ RightBrace ∷ LeftBracket ∷ RightBracket ∷ Comma ∷ Semicolon ∷ Bar ∷ Plus ∷ Minus ∷ []
+
+abbrev pub is_digit : ℕ → Bool
+is_digit c = nat_le 48 c && nat_le c 57
+
+abbrev pub is_name_start : ℕ → Bool
+is_name_start c = (nat_le 65 c && nat_le c 90) || (nat_le 97 c && nat_le c 122) || (c == 95)
+
+abbrev pub is_name_byte : ℕ → Bool
+is_name_byte c = is_name_start c || is_digit c
+
+abbrev pub is_blank : ℕ → Bool
+is_blank c = (c == 32) || (c == 9) || (c == 13) || (c == 10)
+
+abbrev pub is_no_line_end : ℕ → Bool
+is_no_line_end c = not (c == 10)
+
+-- the first word of these with this text, else a name
+unfoldable pub name_kind : List Word → List ℕ → TokenKind
+name_kind [] text = kinds.Name
+name_kind (w ∷ ws) text = cond (bytes_eq text (word_text w)) (kinds.Word w) (name_kind ws text)
+
+abbrev pub begins_with : List ℕ → List ℕ → Bool
+begins_with bytes front = bytes_eq front (take (length front) bytes)
+
+abbrev pub ends_in_letter : Sign → Bool
+ends_in_letter Subset = true
+ends_in_letter Same = true
+ends_in_letter s = false
+
+abbrev pub goes_on : List ℕ → Bool
+goes_on [] = false
+goes_on (b ∷ bs) = is_name_byte b
+
+-- a symbol that ends in a letter stands only where no letter, digit or `_` follows
+unfoldable pub stands : Sign → List ℕ → Bool
+stands s bytes = begins_with bytes (sign_text s) && not (ends_in_letter s && goes_on (drop (length (sign_text s)) bytes))
+
+unfoldable pub sign_at : List Sign → List ℕ → Option Sign
+sign_at [] bytes = None
+sign_at (s ∷ ss) bytes = cond (stands s bytes) (Some s) (sign_at ss bytes)
+
+abbrev pub greatest : ℕ
+greatest = 2147483648
+
+abbrev pub decimal_value : ℕ → List ℕ → ℕ
+decimal_value n [] = n
+decimal_value n (c ∷ cs) = decimal_value (10 * n + (c - 48)) cs
+
+abbrev pub number_result : ℕ → Option ℕ
+number_result n = cond (nat_le n greatest) (Some n) None
+
+-- what begins at a byte, which has so many bytes more: no token, a token, or a fault
+abbrev pub number_piece : Option ℕ → ℕ → Piece
+number_piece None more = Bad NumberRange
+number_piece (Some n) more = Begun (kinds.Number n) more
+
+abbrev pub sign_piece : Option Sign → Piece
+sign_piece None = Bad BadByte
+sign_piece (Some s) = Begun (kinds.Sign s) (length (sign_text s) - 1)
+
+abbrev pub run_of : (ℕ → Bool) → ℕ → List ℕ → List ℕ
+run_of test b bs = b ∷ take (prefix_len test bs) bs
+
+unfoldable pub piece_at : ℕ → List ℕ → Piece
+piece_at b bs =
+    cond (is_blank b) (Blank 0)
+    (cond (begins_with (b ∷ bs) (codes "//")) (Blank (prefix_len is_no_line_end bs))
+    (cond (is_name_start b) (Begun (name_kind words (run_of is_name_byte b bs)) (prefix_len is_name_byte bs))
+    (cond (is_digit b) (number_piece (number_result (decimal_value 0 (run_of is_digit b bs))) (prefix_len is_digit bs))
+    (sign_piece (sign_at signs (b ∷ bs))))))
+
+abbrev pub with_token : Token → Result (List Token) Fault → Result (List Token) Fault
+with_token t (Ok ts) = Ok (t ∷ ts)
+with_token t (Err f) = Err f
+
+-- the tokens from place p on, or the first fault. So many bytes are left of what was begun
+unfoldable pub lexed : ℕ → ℕ → List ℕ → Result (List Token) Fault
+lexed inside p [] = Ok []
+lexed inside p (b ∷ bs) = elim inside [
+  | suc k ↦ lexed k (suc p) bs
+  | zero ↦ elim (piece_at b bs) [
+    | Blank k ↦ lexed k (suc p) bs
+    | Begun kind k ↦ with_token (record { kind = kind; start = p; end = p + suc k }) (lexed k (suc p) bs)
+    | Bad kind ↦ Err (record { kind = kind; place = p })
+  ]
+]
+
+abbrev pub tokens_of : List ℕ → Result (List Token) Fault
+tokens_of bytes = lexed 0 0 bytes
+
+-- a piece is within the bytes
+abbrev pub IsWithin : Piece → List ℕ → Type 0
+IsWithin (Blank k) bs = k ≤ length bs
+IsWithin (Begun kind k) bs = k ≤ length bs
+IsWithin (Bad kind) bs = Unit {0}
+
+-- each token is within the text's first so many bytes, has a byte at least, and starts where the one before ends or later
+abbrev pub LieInOrder : ℕ → List Token → ℕ → Type 0
+LieInOrder from [] all = Unit {0}
+LieInOrder from (t ∷ ts) all = (from ≤ t.start) × (t.start < t.end) × (t.end ≤ all) × LieInOrder t.end ts all
+
+-- what was returned is what reading gives, unless memory ran out
+abbrev pub Gives : {A : Type 0} → Result A (Fail Fault) → Result A Fault → Type 0
+Gives (Ok x) read = read ≡ Ok x
+Gives (Err (Named f)) read = read ≡ Err f
+Gives (Err NoMemory) read = Unit {0}

@@ -1,0 +1,3 @@
+pub mod FaultNumber
+pub mod Lexing
+pub mod Spelled

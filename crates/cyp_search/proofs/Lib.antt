@@ -1,0 +1,13 @@
+pub mod Appended
+pub mod Combining
+pub mod DerivationsAppended
+pub mod Grafted
+pub mod Growth
+pub mod InPlace
+pub mod Items
+pub mod MappedLeaves
+pub mod MappedTrees
+pub mod PartsLooked
+pub mod ReportProof
+pub mod Views
+pub mod WaysLooked

@@ -1,0 +1,5 @@
+use Rattle.std.specs.Prelude.{ℕ, ◌+◌, ◌-◌, ◌^◌, ◌≤◌, min}
+
+-- the count rose, or stands at its end
+abbrev pub Rose : ℕ → ℕ → Type 0
+Rose before now = (before ≤ now) × (min (before + 1) (2 ^ 64 - 1) ≤ now)

@@ -1,0 +1,22 @@
+pub mod Tests
+pub mod Numbers
+pub mod Equality
+pub mod Lists
+pub mod Cases
+pub mod Repeats
+pub mod Sets
+pub mod Literals
+pub mod Parts
+pub mod Eliminate
+pub mod Feasible
+pub mod Integers
+pub mod Arranged
+pub mod Spots
+pub mod RegionsFrom
+pub mod RegionsTo
+pub mod Regions
+pub mod Arrangements
+pub mod Negation
+pub mod Entailment
+pub mod Substitution
+mod Examples
