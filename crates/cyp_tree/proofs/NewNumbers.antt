@@ -3,7 +3,7 @@ use Rattle.std.proofs.Common.{◌≡◌, refl, ℕ, zero, suc, ◌+◌, ◌*◌,
 use Rattle.std.proofs.lemmas.Bool.{cases_lt}
 use Rattle.std.proofs.lemmas.Bool.Decides.{nat_tests}
 use Rattle.cyp_space.specs.Alts.{AltOf}
-use Rattle.cyp_tree.specs.Trees.{Tree}
+use Rattle.cyp_tree.specs.Trees.{Tree, Leaf}
 use Rattle.cyp_tree.specs.Sizes.{size, alts_size, parts_size}
 use Rattle.cyp_tree.specs.Growing.{new_parts, new_alts, graft}
 use Rattle.cyp_tree.specs.Numbers.{one_where, occurrences, alts_occurrences, parts_occurrences, leaves, IsNumbered}
@@ -18,6 +18,13 @@ same-one j k e = grind (arith, nat_tests)
 
 pub other-one : (j k : ℕ) → (j ≡ k → ⊥) → one_where j k ≡ 0
 other-one j k e = grind (arith, nat_tests)
+
+one_where-le : (j k : ℕ) → one_where j k ≤ 1
+one_where-le j k = grind (arith, nat_tests)
+
+-- a leaf alone is numbered
+pub leaf_numbered : (R : Type 0) {N : Type 0} (root : N) → IsNumbered {R = R} (Leaf 0 root)
+leaf_numbered R root = record { distinct = λ k. one_where-le 0 k; below = λ k h. other-one 0 k (λ e. omega arith) }
 
 -- a number that new leaves may have, by where it stands
 pub record NewNumber (k size m occurring : ℕ) : Type 0 where
