@@ -15,7 +15,7 @@ use Rattle.cyp_tree.specs.Growing.{new_parts, new_alts, graft, expand_at, expand
 use Rattle.cyp_tree.specs.Numbers.{one_where, leaves, IsNumbered}
 use Rattle.cyp_tree.proofs.Counting.{size-graft}
 use Rattle.cyp_tree.proofs.Leaves.{next_is_one_leaf}
-use Rattle.cyp_tree.proofs.NewNumbers.{other-one, parts_size-new, grafted_numbered}
+use Rattle.cyp_tree.proofs.NewNumbers.{parts_size-new, leaf_numbered, grafted_numbered}
 use Rattle.cyp_search.specs.declared.branch.Branch.{Branch}
 use Rattle.cyp_search.specs.declared.branch.Way.{Way}
 use Rattle.cyp_search.specs.declared.outlook.LiveLeaf.{LiveLeaf}
@@ -28,9 +28,6 @@ use Rattle.cyp_search.specs.Kept.{IsKept}
 use Rattle.cyp_search.proofs.MappedTrees.{status-map, leaves-map, graft-map, map_tree-map}
 use Rattle.cyp_search.proofs.MappedLeaves.{map_waiting, live_leaves-map, least_waiting-map}
 
-one_where-le : (j k : ℕ) → one_where j k ≤ 1
-one_where-le j k = grind (arith, nat_tests)
-
 pub alts_size-new : {R N : Type 0} (k : ℕ) (as' : List (AltOf R N)) → alts_size (new_alts k as') ≡ sum_by (λ a. length a.premises) as'
 alts_size-new k [] = refl
 alts_size-new {R} {N} k (a ∷ as') =
@@ -41,13 +38,10 @@ module _ {R N : Type 0} (weight : N → ℕ) (b : Branch R N) (root : N) (is : t
   pub leaf_plain : plain_tree b ≡ Leaf 0 root
   leaf_plain = ap (map_tree own_node) is
 
-  leaf_numbered : IsNumbered {R = R} (Leaf 0 root)
-  leaf_numbered = record { distinct = λ k. one_where-le 0 k; below = λ k h. other-one 0 k (λ e. omega arith) }
-
   pub leaf_kept : IsKept weight b 1
   leaf_kept = record {
     weighed = is ∙ ap (map_tree (weigh weight)) (sym leaf_plain);
-    numbered = subst IsNumbered (sym leaf_plain) leaf_numbered;
+    numbered = subst IsNumbered (sym leaf_plain) (leaf_numbered R root);
     counted = ap size (sym leaf_plain);
   }
 
