@@ -10,7 +10,7 @@ use Rattle.cyp_tree.specs.Follows.{Follows, root}
 use Rattle.cyp_tree.proofs.FollowingTrees.{Derives, tree_root, chosen_follows}
 use Rattle.cyp_tree.proofs.FollowingGrafts.{IsGrown, leaf_grown, expanded_grown}
 use Rattle.cyp_search.specs.Stages.{stage}
-use Rattle.cyp_search.specs.Reports.{PlainVerdict, Found, NoneFound, Spent, PlainReport, ending_by, IsReport, report}
+use Rattle.cyp_search.specs.Reports.{PlainVerdict, Found, PlainReport, ending_by, IsReport, report}
 use Rattle.cyp_search.proofs.ReportProof.{report_law}
 
 -- what is found at a stage is the chosen derivation of its tree
@@ -32,7 +32,7 @@ module _ {R N : Type 0} (space : Moving R N) (budget limit : ℕ) (top : N) wher
   chosen_at k d e =
       let t : Tree R N = stage space top k in
       let h : Derives space.moves (tree_root t) d =
-        subst (λ (o : Option (Derivation R N)). IfSome o (Derives space.moves (tree_root t))) e (chosen_follows space.moves t (stage_grown k).follows)
+      subst (λ (o : Option (Derivation R N)). IfSome o (Derives space.moves (tree_root t))) e (chosen_follows space.moves t (stage_grown k).follows)
       in
       (h.0, h.1 ∙ (stage_grown k).rooted)
 
@@ -43,7 +43,7 @@ module _ {R N : Type 0} (space : Moving R N) (budget limit : ℕ) (top : N) wher
       let found : is.1 ≡ Found d = sym (ap (λ (q : PlainReport R N). q.verdict) is.4) ∙ e in
       chosen_at k d
       (found_by (status t) (k == budget) (nat_le (size (stage space top (suc k))) limit) (chosen_derivation t) d
-       (is.2 ∙ ap (λ (v : PlainVerdict R N). Some v) found))
+      (is.2 ∙ ap (λ (v : PlainVerdict R N). Some v) found))
 
 -- a found derivation follows the moves and is one of the node that the search began with
 pub found_follows : {R N : Type 0} (space : Moving R N) (budget limit : ℕ) (top : N) (d : Derivation R N) → (report space budget limit top).verdict ≡ Found d

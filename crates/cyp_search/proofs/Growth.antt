@@ -1,18 +1,17 @@
 -- One expansion of the kept tree.
-use Rattle.std.proofs.Common.{◌≡◌, refl, sym, ap, ◌∙◌, ℕ, ◌+◌, ◌≤◌, List, [], ◌∷◌, length, Option, Some, None, subst, arith}
+use Rattle.std.proofs.Common.{◌≡◌, refl, sym, ap, ◌∙◌, ℕ, ◌+◌, List, [], ◌∷◌, length, Option, Some, None, subst, arith}
 use Rattle.std.specs.List.{sum_by}
 use Rattle.std.specs.Option.{option_map}
 use Rattle.std.proofs.lemmas.List.Sums.{sum_by-cons}
-use Rattle.std.proofs.lemmas.Bool.Decides.{nat_tests}
 use Rattle.cyp_space.specs.Alts.{AltOf}
 use Rattle.cyp_tree.specs.declared.status.Status.{Status}
 use Rattle.cyp_tree.specs.declared.status.Status.TheVariants.{Open, Solved, Failed}
-use Rattle.cyp_tree.specs.Trees.{Tree, Leaf, Moving}
+use Rattle.cyp_tree.specs.Trees.{Leaf, Moving}
 use Rattle.cyp_tree.specs.Statuses.{status}
 use Rattle.cyp_tree.specs.Live.{Waiting, live_leaves, least_waiting, next_leaf}
-use Rattle.cyp_tree.specs.Sizes.{size, alts_size, parts_size}
-use Rattle.cyp_tree.specs.Growing.{new_parts, new_alts, graft, expand_at, expand_next}
-use Rattle.cyp_tree.specs.Numbers.{one_where, leaves, IsNumbered}
+use Rattle.cyp_tree.specs.Sizes.{size, alts_size}
+use Rattle.cyp_tree.specs.Growing.{new_alts, graft, expand_at, expand_next}
+use Rattle.cyp_tree.specs.Numbers.{leaves, IsNumbered}
 use Rattle.cyp_tree.proofs.Counting.{size-graft}
 use Rattle.cyp_tree.proofs.Leaves.{next_is_one_leaf}
 use Rattle.cyp_tree.proofs.NewNumbers.{parts_size-new, leaf_numbered, grafted_numbered}
@@ -73,10 +72,10 @@ module _ {R N : Type 0} (space : Moving R N) (b : Branch R N) (nodes : ℕ) (kep
     pub next_is : next_leaf space.weight (plain_tree b) ≡ Some waits
     next_is =
         let told_of : option_map (map_waiting (weigh space.weight)) (next_leaf space.weight (plain_tree b)) ≡ Some (waiting_of leaf) =
-          sym (least_waiting-map (weigh space.weight) (live_leaves space.weight 0 (plain_tree b)))
-          ∙ ap least_waiting (sym (live_leaves-map (weigh space.weight) own_weight 0 (plain_tree b)))
-          ∙ ap (λ t. least_waiting (live_leaves own_weight 0 t)) (sym kept.weighed)
-          ∙ told.1
+        sym (least_waiting-map (weigh space.weight) (live_leaves space.weight 0 (plain_tree b)))
+        ∙ ap least_waiting (sym (live_leaves-map (weigh space.weight) own_weight 0 (plain_tree b)))
+        ∙ ap (λ t. least_waiting (live_leaves own_weight 0 t)) (sym kept.weighed)
+        ∙ told.1
         in
         sym (unmapped (weigh space.weight) own_node (λ n. refl) (next_leaf space.weight (plain_tree b))) ∙ ap (option_map (map_waiting own_node)) told_of
 

@@ -1,5 +1,5 @@
 -- The next leaf is a leaf of the tree, and in a numbered tree no other leaf has its number.
-use Rattle.std.proofs.Common.{◌≡◌, refl, subst, ℕ, ◌+◌, ◌≤◌, Bool, true, false, cond, List, [], ◌∷◌, ◌++◌, Option, Some, None, IfSome, arith}
+use Rattle.std.proofs.Common.{◌≡◌, refl, subst, ℕ, ◌+◌, ◌≤◌, Bool, true, false, cond, List, [], ◌∷◌, Option, Some, None, IfSome, arith}
 use Rattle.std.specs.List.{All}
 use Rattle.std.proofs.lemmas.List.Elements.{All-nil, All-cons, All-head, All-tail, All-append, All-weaker}
 use Rattle.cyp_tree.specs.declared.status.Status.{Status}
@@ -81,11 +81,11 @@ module _ {R N : Type 0} (weight : N → ℕ) where
         let those : List (Waiting N) = unless_failed (parts_status ps) (live_parts weight (c + d) ps) in
         All-append (LeafOfAlts whole) those (live_alts weight c as')
         (All-weaker (LeafOfParts ps) (LeafOfAlts whole)
-         (λ w l. record { some = omega (arith, l.some); alone = λ h. (l.alone (omega arith), no_alt_are w.number w.node as' (omega (arith, l.some))) }) those
-         (among-unless (LeafOfParts ps) (parts_status ps) (live_parts weight (c + d) ps) (live_parts_among ps (c + d))))
+        (λ w l. record { some = omega (arith, l.some); alone = λ h. (l.alone (omega arith), no_alt_are w.number w.node as' (omega (arith, l.some))) }) those
+        (among-unless (LeafOfParts ps) (parts_status ps) (live_parts weight (c + d) ps) (live_parts_among ps (c + d))))
         (All-weaker (LeafOfAlts as') (LeafOfAlts whole)
-         (λ w l. record { some = omega (arith, l.some); alone = λ h. (no_part_are w.number w.node ps (omega (arith, l.some)), l.alone (omega arith)) })
-         (live_alts weight c as') (live_alts_among as' c))
+        (λ w l. record { some = omega (arith, l.some); alone = λ h. (no_part_are w.number w.node ps (omega (arith, l.some)), l.alone (omega arith)) })
+        (live_alts weight c as') (live_alts_among as' c))
 
     live_parts_among : (ps : Parts R N) (c : ℕ) → All (LeafOfParts ps) (live_parts weight c ps)
     live_parts_among NoPart c = All-nil (LeafOfParts {R = R} NoPart)
@@ -93,11 +93,11 @@ module _ {R N : Type 0} (weight : N → ℕ) where
         let whole : Parts R N = PartThen t ps in
         All-append (LeafOfParts whole) (live_leaves weight c t) (live_parts weight c ps)
         (All-weaker (LeafOf t) (LeafOfParts whole)
-         (λ w l. record { some = omega (arith, l.some); alone = λ h. (l.alone (omega arith), no_part_are w.number w.node ps (omega (arith, l.some))) })
-         (live_leaves weight c t) (live_among t c))
+        (λ w l. record { some = omega (arith, l.some); alone = λ h. (l.alone (omega arith), no_part_are w.number w.node ps (omega (arith, l.some))) })
+        (live_leaves weight c t) (live_among t c))
         (All-weaker (LeafOfParts ps) (LeafOfParts whole)
-         (λ w l. record { some = omega (arith, l.some); alone = λ h. (none_are w.number w.node t (omega (arith, l.some)), l.alone (omega arith)) })
-         (live_parts weight c ps) (live_parts_among ps c))
+        (λ w l. record { some = omega (arith, l.some); alone = λ h. (none_are w.number w.node t (omega (arith, l.some)), l.alone (omega arith)) })
+        (live_parts weight c ps) (live_parts_among ps c))
 
 -- the least one is one of them
 module _ {N : Type 0} (P : Waiting N → Type 0) where
