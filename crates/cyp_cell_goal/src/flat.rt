@@ -66,6 +66,7 @@ fn places_of(alloc: Global, names: &[Name], wanted: &[Name]) -> Result<List<u8>,
 
 /// The goal of the text. The names are all of the text's, by first occurrence, and those from
 /// `universal` on stand in the postcondition alone.
+#[tactic(auto, using(crate::proofs::SameNames::universal_le))]
 pub(crate) fn flat_of(
     alloc: Global,
     names: &[Name],
