@@ -5,3 +5,4 @@ pub mod Text
 pub mod Formed
 pub mod Within
 pub mod Roots
+mod Rows

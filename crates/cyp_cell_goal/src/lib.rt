@@ -7,3 +7,6 @@ mod names;
 mod root;
 
 pub use root::root_of_text;
+
+#[cfg(test)]
+mod tests;
