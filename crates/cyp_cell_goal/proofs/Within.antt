@@ -1,5 +1,5 @@
 -- The limits of a text's goal as it is written, by what the text has.
-use Rattle.std.proofs.Common.{◌≡◌, ◌∙◌, ℕ, List, [], ◌&&◌, ◌==◌, Bool, true, false, filter, length, map, nat_le, refl, sym, ap}
+use Rattle.std.proofs.Common.{◌≡◌, ◌∙◌, ℕ, [], ◌&&◌, ◌==◌, Bool, true, false, filter, length, map, nat_le, refl, sym, ap}
 use Rattle.std.proofs.lemmas.List.{length-map}
 use Rattle.cyp_cell_text.specs.declared.text.FlatText.{FlatText}
 use Rattle.cyp_cell_text.specs.declared.text.ParamText.{ParamText}
