@@ -45,7 +45,7 @@ module _ {R N : Type 0} (weight : N → ℕ) where
         let all : ℕ → ℕ = λ k. parts_leaves k ps + alts_leaves k as' in
         among-append all (unless_failed (parts_status ps) (live_parts weight (c + d) ps)) (live_alts weight c as')
         (among-unless all (parts_status ps) (live_parts weight (c + d) ps)
-         (among-le (λ k. parts_leaves k ps) all (λ k. omega arith) (live_parts weight (c + d) ps) (live_parts_among ps (c + d))))
+        (among-le (λ k. parts_leaves k ps) all (λ k. omega arith) (live_parts weight (c + d) ps) (live_parts_among ps (c + d))))
         (among-le (λ k. alts_leaves k as') all (λ k. omega arith) (live_alts weight c as') (live_alts_among as' c))
 
     live_parts_among : (ps : Parts R N) (c : ℕ) → AllAmong (λ k. parts_leaves k ps) (live_parts weight c ps)
@@ -77,6 +77,6 @@ module _ {N : Type 0} (f : ℕ → ℕ) where
 pub next_is_one_leaf : {R N : Type 0} (weight : N → ℕ) (t : Tree R N) (w : Waiting N) → IsNumbered t → next_leaf weight t ≡ Some w → leaves w.number t ≡ 1
 next_is_one_leaf weight t w is e =
     let some : 1 ≤ leaves w.number t =
-      subst (IsAmong (λ k. leaves k t)) e (least_among (λ k. leaves k t) (live_leaves weight 0 t) (live_among weight t 0))
+    subst (IsAmong (λ k. leaves k t)) e (least_among (λ k. leaves k t) (live_leaves weight 0 t) (live_among weight t 0))
     in
     omega (arith, leaves-le w.number t, is.distinct w.number)

@@ -1,4 +1,5 @@
 pub mod Derivations
+pub mod Follows
 pub mod Growing
 pub mod Laws
 pub mod Live

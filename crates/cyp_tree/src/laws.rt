@@ -3,30 +3,25 @@ ghost use Rattle.cyp_tree.specs.Laws.{OpenHasNext, SolvedHasDerivation, NextIsAL
 /// Law: a tree with an open root has a live leaf, and so a next one.
 pub fn open_tree_has_a_next_leaf<R, N>()
     ensures { OpenHasNext R N }
-{
-}
+{}
 
 /// Law: a solved tree has a derivation.
 pub fn solved_tree_has_a_derivation<R, N>()
     ensures { SolvedHasDerivation R N }
-{
-}
+{}
 
 /// Law: in a numbered tree one leaf has the number of the next leaf.
 pub fn next_leaf_is_one_leaf<R, N>()
     ensures { NextIsALeaf R N }
-{
-}
+{}
 
 /// Law: leaves that are numbered from the size of a tree on keep the numbers of the nodes
 /// distinct and below the size, wherever they are put.
 pub fn grafted_tree_is_numbered<R, N>()
     ensures { GraftedIsNumbered R N }
-{
-}
+{}
 
 /// Law: alternatives that take the place of a leaf add their nodes to the size.
 pub fn grafted_size_adds_up<R, N>()
     ensures { GraftedSize R N }
-{
-}
+{}
