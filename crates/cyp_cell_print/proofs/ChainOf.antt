@@ -4,12 +4,14 @@ use Rattle.std.specs.List.{Contains}
 use Rattle.cyp_goal.specs.Normal.{Renaming}
 use Rattle.cyp_heap.specs.declared.goal.Node.{Node}
 use Rattle.cyp_kernel.specs.Companions.{Proof, Proofs, called_count}
-use Rattle.cyp_kernel.specs.Compile.{bodies, body, procedures, procedures_in}
-use Rattle.cyp_kernel.specs.Naming.{Names}
-use Rattle.cyp_kernel.specs.Statements.{first_body}
+use Rattle.cyp_kernel.specs.Compile.{bodies, body, bound_count, head_names, procedures, procedures_in, renamings, with_new_name}
+use Rattle.cyp_kernel.specs.Naming.{Names, expr_of}
+use Rattle.cyp_kernel.specs.Statements.{first_body, focus_content, pre_cell_at, rule_body}
 use Rattle.cyp_moves.specs.Moves.{moves}
 use Rattle.cyp_prog.specs.ProgramText.{Bytes, body_text, statement_text}
+use Rattle.cyp_prog.specs.Programs.{Body, Loading, Storing}
 use Rattle.cyp_space.specs.Alts.{AltOf}
+use Rattle.cyp_step.specs.Step.{renamed_premises}
 use Rattle.cyp_step.specs.declared.rule.Rule.{Rule}
 use Rattle.cyp_step.specs.declared.rule.Rule.TheVariants.{ByEmp, ByFrame, ByInconsistent, ByRead, ByWrite}
 use Rattle.cyp_cells.specs.declared.flat.Flat.{Flat}
@@ -107,12 +109,46 @@ mutual
   no_procedures_in (More d ds) main next procs h =
       (λ k. no_procedures d main next procs h.0 k ++ no_procedures_in ds main (next + called_count d) procs h.1 k)
 
--- the text of a body
-abbrev text_by : List Bytes → Bool → ℕ → ℕ → Names → ℕ → List ℕ → Proof → Bytes
-text_by ns top self next names m procs d = body_text ns 1 (body top self next names m procs d)
+-- ---- the text of a body
+
+-- the root opens to its rule
+pub opened : (n : Node) (r : Rule) (ds : Proofs) (top : Bool) (self next : ℕ) (names : Names) (m : ℕ) (procs : List ℕ) → IsCellRule r
+    → body top self next names m procs (Derived n r ds)
+    ≡ rule_body n names procs (suc m) r (bodies next (with_new_name n r (suc m) names) (renamings (renamed_premises n r)) (bound_count r m) procs ds)
+opened n ByInconsistent ds true self next names m procs h = refl
+opened n ByInconsistent ds false self next names m procs h = refl
+opened n ByEmp ds true self next names m procs h = refl
+opened n ByEmp ds false self next names m procs h = refl
+opened n (ByRead i) ds true self next names m procs h = refl
+opened n (ByRead i) ds false self next names m procs h = refl
+opened n (ByFrame i) ds true self next names m procs h = refl
+opened n (ByFrame i) ds false self next names m procs h = refl
+opened n (ByWrite i) ds true self next names m procs h = refl
+opened n (ByWrite i) ds false self next names m procs h = refl
+opened n r ds top self next names m procs h = absurd h
+
+-- a rule's text, by that of its premise
+same_rule : (n : Node) (r : Rule) (ns : List Bytes) (names : Names) (procs : List ℕ) (new : ℕ) (bs cs : List Body) → IsCellRule r
+    → body_text ns 1 (first_body bs) ≡ body_text [] 1 (first_body cs) → body_text ns 1 (rule_body n names procs new r bs) ≡ body_text [] 1 (rule_body n names [] new r cs)
+same_rule n ByInconsistent ns names procs new bs cs h e = refl
+same_rule n ByEmp ns names procs new bs cs h e = refl
+same_rule n (ByRead i) ns names procs new bs cs h e = ap (λ t. statement_text [] 1 (Loading new (expr_of names (pre_cell_at n i))) ++ t) e
+same_rule n (ByFrame i) ns names procs new bs cs h e = e
+same_rule n (ByWrite i) ns names procs new bs cs h e = ap (λ t. statement_text [] 1 (Storing (expr_of names (pre_cell_at n i)) (expr_of names (focus_content n))) ++ t) e
+same_rule n r ns names procs new bs cs h e = absurd h
 
 mutual
-  -- no procedure is named in the body
+  -- neither other procedures nor their names are told in the body
   pub same_text : (d : Proof) (ns : List Bytes) (top : Bool) (self next : ℕ) (names : Names) (m : ℕ) (procs : List ℕ) → HasCellRules d
-      → text_by ns top self next names m procs d ≡ text_by [] false 0 1 names m [] d
-  same_text d ns top self next names m procs h = ?
+      → body_text ns 1 (body top self next names m procs d) ≡ body_text [] 1 (body false 0 1 names m [] d)
+  same_text (Derived n r ds) ns top self next names m procs h =
+      let inner : Names = with_new_name n r (suc m) names in
+      let rs : List Renaming = renamings (renamed_premises n r) in
+      ap (body_text ns 1) (opened n r ds top self next names m procs h.0)
+      ∙ same_rule n r ns names procs (suc m) (bodies next inner rs (bound_count r m) procs ds) (bodies 1 inner rs (bound_count r m) [] ds) h.0 (same_first ds ns next inner rs (bound_count r m) procs h.1)
+      ∙ ap (body_text [] 1) (sym (opened n r ds false 0 1 names m [] h.0))
+
+  same_first : (ds : Proofs) (ns : List Bytes) (next : ℕ) (names : Names) (rs : List Renaming) (m : ℕ) (procs : List ℕ) → HaveCellRules ds
+      → body_text ns 1 (first_body (bodies next names rs m procs ds)) ≡ body_text [] 1 (first_body (bodies 1 names rs m [] ds))
+  same_first NoMore ns next names rs m procs h = refl
+  same_first (More d ds) ns next names rs m procs h = same_text d ns false 0 next (head_names names rs) m procs h.0

@@ -1,5 +1,5 @@
 -- The lines of a derivation of goals of cells alone, step by step.
-use Rattle.std.specs.Prelude.{[], List, false, None, Option, Some, length, map, zip, ℕ, ◌∷◌}
+use Rattle.std.specs.Prelude.{[], ◌++◌, List, codes, false, None, Option, Some, length, map, suc, zero, zip, ℕ, ◌∷◌}
 use Rattle.std.specs.Option.{option_and_then}
 use Rattle.cyp_cells.specs.CellNormal.{normal_flat}
 use Rattle.cyp_cells.specs.Cells.{int_var, node_of}
@@ -11,7 +11,7 @@ use Rattle.cyp_kernel.specs.Companions.{Proof}
 use Rattle.cyp_kernel.specs.Compile.{body, with_new_name}
 use Rattle.cyp_kernel.specs.Naming.{Names, expr_of, name_of, param_names}
 use Rattle.cyp_kernel.specs.Statements.{focus_content, pre_cell_at}
-use Rattle.cyp_prog.specs.ProgramText.{Bytes, body_text, statement_text}
+use Rattle.cyp_prog.specs.ProgramText.{Bytes, body_text, statement_text, var_text}
 use Rattle.cyp_prog.specs.Programs.{Failing, Loading, Storing}
 use Rattle.cyp_step.specs.declared.rule.Rule.{Rule}
 use Rattle.cyp_step.specs.declared.rule.Rule.TheVariants.{ByInconsistent, ByRead, ByWrite}
@@ -48,3 +48,8 @@ lines_from numbers count d = body_text [] 1 (body false 0 1 (zip (root d).goal.p
 -- the lines of the main procedure's body
 abbrev pub main_lines : Proof → Bytes
 main_lines d = body_text [] 1 (body false 0 1 (param_names (root d)) (length (root d).goal.program) [] d)
+
+-- the parameter at this place, with a comma before it if it isn't the first
+abbrev pub parameter_text : ℕ → Bytes
+parameter_text zero = var_text 1
+parameter_text (suc k) = codes ", " ++ var_text (suc (suc k))

@@ -1,22 +1,31 @@
-ghost use Rattle.std.specs.Prelude.{◌≡◌, ◌++◌, ◌&&◌, OnOk, nat_le};
-ghost use Rattle.std.specs.List.{list_all};
-ghost use Rattle.cyp_kernel.specs.Compile.{is_digit, is_variable_name, main_name, number_of};
+ghost use Rattle.std.specs.Prelude.{◌≡◌, ◌++◌, ◌≤◌, OnOk};
+ghost use Rattle.cyp_cell_print.specs.ShortNumbers.{is_short_from, with_digit};
+ghost use Rattle.cyp_kernel.specs.Compile.{is_variable_name, main_name};
 
 use crate::bytes::add;
 use cyp_term::NoMemory;
 
+/// The number with a digit behind it, or none where that is no digit or the number is too large.
+fn with_digit(number: u32, digit: u8) -> Option<u32>
+    requires { number ≤ 65535 }
+    ensures { result ≡ with_digit number digit }
+{
+    if !digit.is_ascii_digit() {
+        return None;
+    }
+    let longer = 10 * number + u32::from(digit - b'0');
+    if longer <= 65535 { Some(longer) } else { None }
+}
+
 /// Whether all are digits, of a number of at most 65,535.
 fn is_short_number(digits: &[u8]) -> bool
-    ensures { result ≡ (list_all is_digit digits.now && nat_le (number_of 0 digits.now) 65535) }
+    ensures { result ≡ is_short_from 0 digits.now }
 {
-    let mut number: u32 = 0;
+    let mut number = 0;
     for digit in digits {
-        if !digit.is_ascii_digit() {
-            return false;
-        }
-        number = 10 * number + u32::from(*digit - b'0');
-        if number > 65535 {
-            return false;
+        match with_digit(number, *digit) {
+            Some(longer) => number = longer,
+            None => return false,
         }
     }
     true

@@ -1,4 +1,4 @@
-ghost use Rattle.std.specs.Prelude.{◌≡◌, ◌∷◌, [], ◌++◌, IfOk, cond, length, map, ◌<◌, ◌^◌};
+ghost use Rattle.std.specs.Prelude.{◌≡◌, ◌∷◌, [], ◌++◌, IfOk, cond, length, map};
 ghost use Rattle.cyp_cells.specs.CellMoves.{IsCells};
 ghost use Rattle.cyp_cells.specs.Cells.{int_var};
 ghost use Rattle.cyp_cell_print.specs.Lines.{names_by, next_numbers};
@@ -89,7 +89,6 @@ pub(crate) fn next_numbers(
 
 /// The numbers of so many parameters.
 pub(crate) fn parameter_numbers(alloc: Global, count: u64) -> Result<Vec<u64>, NoMemory>
-    requires { count < 2 ^ 63 }
     ensures { IfOk result (λ ns. ns.items ≡ count_from 1 count) }
 {
     let mut numbers = Vec::new(alloc);

@@ -1,5 +1,6 @@
-ghost use Rattle.std.specs.Prelude.{◌≡◌, ◌++◌, IfOk, OnOk};
+ghost use Rattle.std.specs.Prelude.{◌≡◌, ◌++◌, ◌+◌, ◌<◌, ◌^◌, IfOk, OnOk};
 ghost use Rattle.cyp_cell_print.specs.Found.{IsFound};
+ghost use Rattle.cyp_cell_print.specs.Lines.{parameter_text};
 ghost use Rattle.cyp_kernel.specs.Compile.{program_of};
 ghost use Rattle.cyp_prog.specs.ProgramText.{join_with_comma, params_text, program_text};
 ghost use Rattle.cyp_tree.specs.Derivations.{plain_derivation};
@@ -13,15 +14,23 @@ use cyp_step::Rule;
 use cyp_term::{List, NoMemory, Text};
 use std::alloc::Global;
 
+/// Writes the name of the parameter at this place, with a comma before it if it isn't the first.
+fn add_parameter(text: &mut Vec<u8>, place: u64) -> Result<(), NoMemory>
+    requires { place + 1 < 2 ^ 64 }
+    ensures { OnOk result (text.new.items ≡ text.old.items ++ parameter_text place) }
+{
+    if place > 0 {
+        add(text, b", ")?;
+    }
+    add_variable(text, place + 1)
+}
+
 /// Writes the names of so many parameters.
-fn add_parameters(text: &mut Vec<u8>, count: usize) -> Result<(), NoMemory>
+fn add_parameters(text: &mut Vec<u8>, count: u64) -> Result<(), NoMemory>
     ensures { OnOk result (text.new.items ≡ text.old.items ++ join_with_comma (params_text 1 count)) }
 {
     for place in 0..count {
-        if place > 0 {
-            add(text, b", ")?;
-        }
-        add_variable(text, place as u64 + 1)?;
+        add_parameter(text, place)?;
     }
     Ok(())
 }
@@ -40,7 +49,7 @@ pub fn program_text(
     add(&mut text, b"void ")?;
     add_main_name(&mut text, name)?;
     add(&mut text, b"(")?;
-    add_parameters(&mut text, found.node.get().flat().program.len())?;
+    add_parameters(&mut text, found.node.get().flat().program.len() as u64)?;
     add(&mut text, b") {\n")?;
     add_body(alloc, &mut text, found)?;
     add(&mut text, b"}\n")?;
