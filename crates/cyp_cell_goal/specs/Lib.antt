@@ -1,1 +1,2 @@
 pub mod FlatGoal
+pub mod FlatOf

@@ -19,10 +19,7 @@ use Rattle.cyp_cell_moves.proofs.FrameKeeps.{frame_raw, write_raw}
 use Rattle.cyp_cell_moves.proofs.Kept.{normal_kept}
 use Rattle.cyp_cell_moves.proofs.ReadKeeps.{read_raw}
 use Rattle.cyp_cell_moves.proofs.WellFormed.{IsRaw}
-
--- the premises of a move are kept
-abbrev pub PremisesKept : AltOf Rule Flat → Type 0
-PremisesKept a = All IsCells a.premises
+use Rattle.cyp_cell_moves.specs.CellAlts.{PremisesKept}
 
 -- ---- one row
 

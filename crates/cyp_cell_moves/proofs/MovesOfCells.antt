@@ -40,12 +40,9 @@ use Rattle.cyp_cell_moves.proofs.ClearCells.{clear_from_cells}
 use Rattle.cyp_cell_moves.proofs.Limits.{few_moves}
 use Rattle.cyp_cell_moves.proofs.ListedRows.{filter_map-places, filter_map_none, filter_map_one, least_allowed-none, of_kinds-append, of_kinds-rows}
 use Rattle.cyp_cell_moves.proofs.PremisesOfCells.{one_renaming, premises_frame, premises_read, premises_write}
-use Rattle.cyp_cell_moves.proofs.RowOfCells.{LeavesRaw, row-node_of, row_by, row_of}
+use Rattle.cyp_cell_moves.proofs.RowOfCells.{LeavesRaw, row-node_of, row_by}
 use Rattle.cyp_cell_moves.proofs.WritesOfCells.{write_by, write_here}
-
--- the general alternative of one of cells alone
-abbrev pub alt_of : AltOf Rule Flat → AltOf Rule Node
-alt_of a = priced (row_of a)
+use Rattle.cyp_cell_moves.specs.CellAlts.{row_of}
 
 -- the kinds of row that goals of cells alone have
 pub record Covers (kinds : Rule → Bool) : Type 0 where
@@ -57,14 +54,13 @@ pub record Covers (kinds : Rule → Bool) : Type 0 where
 
 -- ---- the last rows
 
-abbrev last : Rule → Row
+abbrev pub last : Rule → Row
 last r = record { rule = r; premises = [] }
 
-contradiction_by : Bool → List Row
+abbrev pub contradiction_by : Bool → List Row
 contradiction_by b = elim b [ true ↦ [] | false ↦ last ByInconsistent ∷ [] ]
 
-contradiction_rows : (f : Flat) → IsCells f → rows (node_of f) (ByInconsistent ∷ []) ≡ contradiction_by (is_consistent f)
-unfolding contradiction_by
+pub contradiction_rows : (f : Flat) → IsCells f → rows (node_of f) (ByInconsistent ∷ []) ≡ contradiction_by (is_consistent f)
 contradiction_rows f c =
     tested (satisfiable (facts (goal_of f))) ∙ ap contradiction_by (satisfiable-facts f c.named)
   where
@@ -73,14 +69,13 @@ contradiction_rows f c =
     tested true = refl
     tested false = refl
 
-end_by : Bool → List Row
+abbrev pub end_by : Bool → List Row
 end_by b = elim b [ true ↦ last ByEmp ∷ [] | false ↦ [] ]
 
-length_cells : (cs : List FlatCell) → length (map cell_of cs) ≡ length cs
+pub length_cells : (cs : List FlatCell) → length (map cell_of cs) ≡ length cs
 length_cells cs = length-map cs cell_of
 
-end_rows : (f : Flat) → IsCells f → rows (node_of f) (ByEmp ∷ []) ≡ end_by (is_done f)
-unfolding end_by
+pub end_rows : (f : Flat) → IsCells f → rows (node_of f) (ByEmp ∷ []) ≡ end_by (is_done f)
 end_rows f c =
     (λ k. tested ((length_cells f.pre k == 0) && (length_cells f.post k == 0) && (length-map f.exist int_var k == 0)) (shown_end k))
     ∙ tested_as (is_done f)
@@ -131,7 +126,7 @@ read_here f k (Some m) later rest h r clear e =
     let alt = read_alt k m m.flat.equations (clear m refl) in
     ap (λ o. cons_option o []) (r ∙ ap (option_map row_of) alt) ∙ ap (λ o. map row_of (read_rows_by o rest)) (sym alt)
 
-read_rows : (f : Flat) (k left : ℕ) → IsCells f → is_consistent f ≡ true
+pub read_rows : (f : Flat) (k left : ℕ) → IsCells f → is_consistent f ≡ true
     → rows (node_of f) (least_allowed (node_of f) (map ByRead (count_from k left))) ≡ map row_of (read_rows_from f k left)
 read_rows f k zero h c = refl
 read_rows f k (suc left) h c =
@@ -145,7 +140,7 @@ read_rows f k (suc left) h c =
 
 -- ---- frames and writes
 
-frames : (f : Flat) → IsCells f → is_consistent f ≡ true → (is : List ℕ) → rows (node_of f) (map ByFrame is) ≡ map row_of (filter_map (frame_row f) is)
+pub frames : (f : Flat) → IsCells f → is_consistent f ≡ true → (is : List ℕ) → rows (node_of f) (map ByFrame is) ≡ map row_of (filter_map (frame_row f) is)
 frames f h c is =
     filter_map-places row_of ByFrame (row (node_of f)) (frame_row f)
     (λ i.
@@ -153,10 +148,10 @@ frames f h c is =
     row-node_of (node_of f) (ByFrame i) (frame_at f i (slice_get f.post 0) (slice_get f.pre i)) leaves
     (premises_frame f i h c (λ g e. plain_from_raw g (leaves.raw g e)))) is
 
-abbrev write_row : Flat → ℕ → Option (AltOf Rule Flat)
+abbrev pub write_row : Flat → ℕ → Option (AltOf Rule Flat)
 write_row f i = flat_row (ByWrite i) (write_by f i (slice_get f.post 0) (slice_get f.pre i))
 
-writes : (f : Flat) → IsCells f → is_consistent f ≡ true → (is : List ℕ) → rows (node_of f) (map ByWrite is) ≡ map row_of (filter_map (write_row f) is)
+pub writes : (f : Flat) → IsCells f → is_consistent f ≡ true → (is : List ℕ) → rows (node_of f) (map ByWrite is) ≡ map row_of (filter_map (write_row f) is)
 writes f h c is =
     filter_map-places row_of ByWrite (row (node_of f)) (write_row f)
     (λ i.
@@ -195,7 +190,7 @@ writes_at f p (Some j) e =
     (λ i ne. ap (flat_row (ByWrite i)) (not_here f i p (slice_get f.pre i) (Some j) e (false_from_ne_true (i == j) (λ t. ne (eqb-true i j t)))))
     ∙ here_is f j p (slice_get f.pre j) e
 
-written_rows : (f : Flat) (o : Option FlatCell)
+pub written_rows : (f : Flat) (o : Option FlatCell)
     → filter_map (λ i. flat_row (ByWrite i) (write_by f i o (slice_get f.pre i))) (count_from 0 (length f.pre)) ≡ write_focus f o
 written_rows f None = filter_map_none (λ i. flat_row (ByWrite i) (write_by f i None (slice_get f.pre i))) 0 (length f.pre) (λ i le. ap (flat_row (ByWrite i)) (no_focus i (slice_get f.pre i)))
   where

@@ -22,10 +22,7 @@ use Rattle.cyp_cell_moves.proofs.NormalConsistent.{normal_consistent}
 use Rattle.cyp_cell_moves.proofs.NormalLeftover.{leftover}
 use Rattle.cyp_cell_moves.proofs.PremisesOfCells.{one_renaming}
 use Rattle.cyp_cell_moves.proofs.WellFormed.{IsRaw}
-
--- the general row of a row of cells alone
-abbrev pub row_of : AltOf Rule Flat → Row
-row_of a = record { rule = a.rule; premises = map node_of a.premises }
+use Rattle.cyp_cell_moves.specs.CellAlts.{row_of}
 
 -- ---- when what is left is dead
 

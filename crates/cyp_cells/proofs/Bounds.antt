@@ -1,14 +1,13 @@
 -- What a search of cells alone knows of the size of its goals.
-use Rattle.std.proofs.Common.{◌≡◌, ℕ, ◌+◌, ◌*◌, ◌<◌, ◌≤◌, Bool, true, false, cond, IsTrue, List, [], ◌∷◌, Option, Some, None, length, map, nat_le, nat_lt, refl, sym, ap, ◌∙◌, arith}
-use Rattle.std.proofs.lemmas.Bool.{and_from, and_parts, leb-true, lt-ltb}
+use Rattle.std.proofs.Common.{◌≡◌, ℕ, ◌+◌, ◌*◌, ◌<◌, ◌≤◌, Bool, true, false, cond, IsTrue, List, [], ◌∷◌, Some, None, length, map, nat_lt, refl, sym, ap, ◌∙◌, arith}
+use Rattle.std.proofs.lemmas.Bool.{and_from, and_parts, lt-ltb}
 use Rattle.std.proofs.lemmas.Bool.Decides.{nat_tests}
 use Rattle.std.proofs.lemmas.List.{length-map}
-use Rattle.std.proofs.lemmas.List.Folds.{list_all-map}
 use Rattle.std.specs.List.{list_all}
 use Rattle.cyp_cells.specs.declared.flat.Flat.{Flat}
 use Rattle.cyp_cells.specs.declared.flat.FlatRenaming.{FlatRenaming}
-use Rattle.cyp_cells.specs.Cells.{all_numbers, among, cell_of, node_of, once}
-use Rattle.cyp_cells.specs.CellNormal.{finish_flat, is_flat_within, normal_flat, number_flat, place_in, prune_flat, solve_flat, tidy_flat}
+use Rattle.cyp_cells.specs.Cells.{all_numbers, among, node_of, once}
+use Rattle.cyp_cells.specs.CellNormal.{is_flat_within, normal_flat, number_flat, place_in, prune_flat, solve_flat, tidy_flat}
 use Rattle.cyp_cells.specs.CellMoves.{IsCells, is_numbered}
 use Rattle.cyp_cells.specs.FlatAlts.{IsCounted}
 use Rattle.cyp_moves.specs.Moves.{weight}

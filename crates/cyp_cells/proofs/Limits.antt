@@ -1,13 +1,11 @@
 -- A goal passes no limit exactly where it passes none under new numbers.
-use Rattle.std.proofs.Common.{◌≡◌, ℕ, ◌<◌, ◌≤◌, Bool, true, false, cond, IsTrue, List, [], ◌∷◌, Option, Some, None, length, map, nat_lt, refl, sym, ap, ◌∙◌, arith}
+use Rattle.std.proofs.Common.{◌≡◌, true, false, Some, None, length, refl, sym, ap, ◌∙◌}
 use Rattle.std.proofs.lemmas.List.{length-map}
-use Rattle.std.proofs.lemmas.Bool.{and_from, and_parts, lt-ltb}
-use Rattle.std.specs.List.{list_all}
 use Rattle.cyp_cells.specs.declared.flat.Flat.{Flat}
 use Rattle.cyp_cells.specs.declared.flat.FlatRenaming.{FlatRenaming}
-use Rattle.cyp_cells.specs.Cells.{all_numbers, among, once}
-use Rattle.cyp_cells.specs.CellNormal.{finish_flat, is_flat_within, number_flat, place_in, prune_flat, rename_flat, tidy_flat}
-use Rattle.cyp_cells.proofs.Renaming.{all_among_once, all_numbers-rename_flat, once-map_place, place_from_within}
+use Rattle.cyp_cells.specs.Cells.{all_numbers, once}
+use Rattle.cyp_cells.specs.CellNormal.{finish_flat, is_flat_within, number_flat, place_in, prune_flat, tidy_flat}
+use Rattle.cyp_cells.proofs.Renaming.{all_numbers-rename_flat, once-map_place}
 
 -- as many numbers under new numbers
 pub renamed_count : (f : Flat) → length (once (all_numbers (number_flat f))) ≡ length (once (all_numbers f))

@@ -1,17 +1,17 @@
 -- New numbers are places among the old ones: different numbers get different ones.
-use Rattle.std.proofs.Common.{◌≡◌, ◌==◌, ◌||◌, ℕ, suc, ◌+◌, ◌<◌, ◌≤◌, Bool, true, false, cond, List, [], ◌∷◌, ◌++◌, length, map, flat_map, refl, sym, ap, ◌∙◌, arith}
+use Rattle.std.proofs.Common.{◌≡◌, ◌==◌, ℕ, suc, ◌+◌, ◌<◌, ◌≤◌, Bool, true, false, cond, List, [], ◌∷◌, ◌++◌, length, map, refl, sym, ap, ◌∙◌, arith}
 use Rattle.std.proofs.lemmas.Bool.Decides.{nat_tests}
 use Rattle.std.proofs.lemmas.Bool.{and_from, and_parts, eq-eqb, or_left, or_right}
 use Rattle.std.proofs.lemmas.List.{map-append}
-use Rattle.std.specs.List.{list_any, list_all}
-use Rattle.cyp_term.specs.Terms.{with_new, with_all_new}
+use Rattle.std.specs.List.{list_all}
+use Rattle.cyp_term.specs.Terms.{with_new}
 use Rattle.cyp_cells.specs.declared.flat.Flat.{Flat}
 use Rattle.cyp_cells.specs.declared.flat.FlatCell.{FlatCell}
 use Rattle.cyp_cells.specs.declared.flat.FlatEquation.{FlatEquation}
 use Rattle.cyp_cells.specs.declared.flat.FlatTerm.{FlatTerm}
 use Rattle.cyp_cells.specs.declared.flat.FlatTerm.TheVariants.{Named, Number}
 use Rattle.cyp_cells.specs.Cells.{all_numbers, among, cell_numbers, cells_numbers, equation_numbers, equations_numbers, once, term_numbers}
-use Rattle.cyp_cells.specs.CellNormal.{is_flat_within, number_flat, place_from, place_in, rename_cell, rename_equation, rename_flat, rename_term}
+use Rattle.cyp_cells.specs.CellNormal.{place_from, place_in, rename_cell, rename_equation, rename_flat, rename_term}
 use Rattle.cyp_cells.specs.Collected.{joined}
 use Rattle.cyp_cells.proofs.Collecting.{among_joined}
 

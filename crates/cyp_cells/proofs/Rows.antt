@@ -1,7 +1,5 @@
 -- Worked goals: the normal form of cells alone is that of the general definition.
-use Rattle.std.proofs.Common.{◌≡◌, ℕ, [], ◌∷◌, List, map, Option, Some, None, option_map, refl}
-use Rattle.cyp_term.specs.declared.term.Var.{Var}
-use Rattle.cyp_heap.specs.declared.goal.Node.{Node}
+use Rattle.std.proofs.Common.{◌≡◌, ℕ, [], ◌∷◌, map, option_map, refl}
 use Rattle.cyp_goal.specs.Normal.{Renaming, normal}
 use Rattle.cyp_cells.specs.declared.flat.FlatTerm.{FlatTerm}
 use Rattle.cyp_cells.specs.declared.flat.FlatTerm.TheVariants.{Named, Number}
@@ -10,7 +8,6 @@ use Rattle.cyp_cells.specs.declared.flat.Flat.{Flat}
 use Rattle.cyp_cells.specs.Cells.{int_var, node_of}
 use Rattle.cyp_cells.specs.declared.flat.FlatRenaming.{FlatRenaming}
 use Rattle.cyp_cells.specs.CellNormal.{normal_flat}
-use Rattle.cyp_cells.specs.CellMoves.{frame_at}
 
 abbrev renaming_of : FlatRenaming → Renaming
 renaming_of r = record { node = node_of r.flat; old = map int_var r.old }

@@ -8,11 +8,9 @@ use Rattle.cyp_cells.specs.declared.flat.Flat.{Flat}
 use Rattle.cyp_cells.specs.declared.flat.FlatCell.{FlatCell}
 use Rattle.cyp_cells.specs.declared.flat.FlatTerm.{FlatTerm}
 use Rattle.cyp_cells.specs.declared.flat.FlatTerm.TheVariants.{Named, Number}
-use Rattle.cyp_goal.specs.Facts.{apart}
 use Rattle.cyp_moves.specs.Moves.{cost_of}
 use Rattle.cyp_pred.specs.Unfold.{count_from}
 use Rattle.cyp_space.specs.Alts.{AltOf}
-use Rattle.cyp_step.specs.Step.{premises}
 use Rattle.cyp_step.specs.declared.rule.Rule.{Rule}
 use Rattle.cyp_step.specs.declared.rule.Rule.TheVariants.{ByEmp, ByFrame, ByInconsistent, ByRead, ByWrite}
 

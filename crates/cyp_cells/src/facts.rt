@@ -48,11 +48,11 @@ pub(crate) fn find_cell(address: FlatTerm, cells: &[FlatCell]) -> Option<usize>
     None
 }
 
-fn is_apart(address: FlatTerm, cells: &[FlatCell]) -> bool
-    ensures { result ≡ list_all (λ t. not (same_term address t)) (map (λ (c : FlatCell). c.at) cells.now) }
+fn is_apart(term: FlatTerm, cells: &[FlatCell]) -> bool
+    ensures { result ≡ list_all (λ t. not (same_term term t)) (map (λ (c : FlatCell). c.at) cells.now) }
 {
     for cell in cells {
-        if is_same(address, cell.at) {
+        if is_same(term, cell.at) {
             return false;
         }
     }

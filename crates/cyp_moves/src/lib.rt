@@ -1,2 +1,6 @@
-//! The move table, by which a search goes on from a node: definitions.
+//! The move table, by which a search goes on from a node: its definition, and what each rule costs.
 #![tactic(auto)]
+
+mod cost;
+
+pub use cost::cost_of;

@@ -1,21 +1,20 @@
 -- One expansion of the kept tree.
-use Rattle.std.proofs.Common.{◌≡◌, refl, sym, ap, ◌∙◌, ℕ, ◌+◌, ◌≤◌, List, [], ◌∷◌, length, Option, Some, None, subst, arith}
+use Rattle.std.proofs.Common.{◌≡◌, refl, sym, ap, ◌∙◌, ℕ, ◌+◌, List, [], ◌∷◌, length, Option, Some, None, subst, arith}
 use Rattle.std.specs.List.{sum_by}
 use Rattle.std.specs.Option.{option_map}
 use Rattle.std.proofs.lemmas.List.Sums.{sum_by-cons}
-use Rattle.std.proofs.lemmas.Bool.Decides.{nat_tests}
 use Rattle.cyp_space.specs.Alts.{AltOf}
 use Rattle.cyp_tree.specs.declared.status.Status.{Status}
 use Rattle.cyp_tree.specs.declared.status.Status.TheVariants.{Open, Solved, Failed}
-use Rattle.cyp_tree.specs.Trees.{Tree, Leaf, Moving}
+use Rattle.cyp_tree.specs.Trees.{Leaf, Moving}
 use Rattle.cyp_tree.specs.Statuses.{status}
 use Rattle.cyp_tree.specs.Live.{Waiting, live_leaves, least_waiting, next_leaf}
-use Rattle.cyp_tree.specs.Sizes.{size, alts_size, parts_size}
-use Rattle.cyp_tree.specs.Growing.{new_parts, new_alts, graft, expand_at, expand_next}
-use Rattle.cyp_tree.specs.Numbers.{one_where, leaves, IsNumbered}
+use Rattle.cyp_tree.specs.Sizes.{size, alts_size}
+use Rattle.cyp_tree.specs.Growing.{new_alts, graft, expand_at, expand_next}
+use Rattle.cyp_tree.specs.Numbers.{leaves, IsNumbered}
 use Rattle.cyp_tree.proofs.Counting.{size-graft}
 use Rattle.cyp_tree.proofs.Leaves.{next_is_one_leaf}
-use Rattle.cyp_tree.proofs.NewNumbers.{other-one, parts_size-new, grafted_numbered}
+use Rattle.cyp_tree.proofs.NewNumbers.{parts_size-new, leaf_numbered, grafted_numbered}
 use Rattle.cyp_search.specs.declared.branch.Branch.{Branch}
 use Rattle.cyp_search.specs.declared.branch.Way.{Way}
 use Rattle.cyp_search.specs.declared.outlook.LiveLeaf.{LiveLeaf}
@@ -28,9 +27,6 @@ use Rattle.cyp_search.specs.Kept.{IsKept}
 use Rattle.cyp_search.proofs.MappedTrees.{status-map, leaves-map, graft-map, map_tree-map}
 use Rattle.cyp_search.proofs.MappedLeaves.{map_waiting, live_leaves-map, least_waiting-map}
 
-one_where-le : (j k : ℕ) → one_where j k ≤ 1
-one_where-le j k = grind (arith, nat_tests)
-
 pub alts_size-new : {R N : Type 0} (k : ℕ) (as' : List (AltOf R N)) → alts_size (new_alts k as') ≡ sum_by (λ a. length a.premises) as'
 alts_size-new k [] = refl
 alts_size-new {R} {N} k (a ∷ as') =
@@ -41,13 +37,10 @@ module _ {R N : Type 0} (weight : N → ℕ) (b : Branch R N) (root : N) (is : t
   pub leaf_plain : plain_tree b ≡ Leaf 0 root
   leaf_plain = ap (map_tree own_node) is
 
-  leaf_numbered : IsNumbered {R = R} (Leaf 0 root)
-  leaf_numbered = record { distinct = λ k. one_where-le 0 k; below = λ k h. other-one 0 k (λ e. omega arith) }
-
   pub leaf_kept : IsKept weight b 1
   leaf_kept = record {
     weighed = is ∙ ap (map_tree (weigh weight)) (sym leaf_plain);
-    numbered = subst IsNumbered (sym leaf_plain) leaf_numbered;
+    numbered = subst IsNumbered (sym leaf_plain) (leaf_numbered R root);
     counted = ap size (sym leaf_plain);
   }
 
@@ -79,10 +72,10 @@ module _ {R N : Type 0} (space : Moving R N) (b : Branch R N) (nodes : ℕ) (kep
     pub next_is : next_leaf space.weight (plain_tree b) ≡ Some waits
     next_is =
         let told_of : option_map (map_waiting (weigh space.weight)) (next_leaf space.weight (plain_tree b)) ≡ Some (waiting_of leaf) =
-          sym (least_waiting-map (weigh space.weight) (live_leaves space.weight 0 (plain_tree b)))
-          ∙ ap least_waiting (sym (live_leaves-map (weigh space.weight) own_weight 0 (plain_tree b)))
-          ∙ ap (λ t. least_waiting (live_leaves own_weight 0 t)) (sym kept.weighed)
-          ∙ told.1
+        sym (least_waiting-map (weigh space.weight) (live_leaves space.weight 0 (plain_tree b)))
+        ∙ ap least_waiting (sym (live_leaves-map (weigh space.weight) own_weight 0 (plain_tree b)))
+        ∙ ap (λ t. least_waiting (live_leaves own_weight 0 t)) (sym kept.weighed)
+        ∙ told.1
         in
         sym (unmapped (weigh space.weight) own_node (λ n. refl) (next_leaf space.weight (plain_tree b))) ∙ ap (option_map (map_waiting own_node)) told_of
 

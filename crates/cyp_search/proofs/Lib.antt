@@ -1,6 +1,7 @@
 pub mod Appended
 pub mod Combining
 pub mod DerivationsAppended
+pub mod FoundFollows
 pub mod Grafted
 pub mod Growth
 pub mod InPlace

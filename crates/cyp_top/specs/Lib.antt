@@ -1,3 +1,4 @@
-pub mod Code
-pub mod Output
 pub mod Answers
+pub mod Code
+pub mod Given
+pub mod Output

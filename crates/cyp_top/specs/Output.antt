@@ -1,24 +1,26 @@
 -- What the program writes and answers for words and bytes.
-use Rattle.std.specs.Prelude.{◌≡◌, ◌⊎◌, ◌≤◌, ◌++◌, ◌∷◌, ◌==◌, [], Bool, List, None, Option, Some, codes, false, length, ℕ}
+use Rattle.std.specs.Prelude.{◌≡◌, ◌⊎◌, ◌≤◌, ◌++◌, ◌∷◌, [], Bool, List, codes, false, length, nat_eq, true, ℕ}
+use Rattle.std.specs.Cmp.Lexicographic.{pointwise}
 use Rattle.cyp_heap.specs.declared.goal.Node.{Node}
-use Rattle.cyp_goal.specs.Normal.{Renaming, normal}
 use Rattle.cyp_moves.specs.Moves.{moves, weight}
 use Rattle.cyp_step.specs.declared.rule.Rule.{Rule}
-use Rattle.cyp_tree.specs.Moving.{Moving}
-use Rattle.cyp_search.specs.Reports.{PlainReport, PlainVerdict, Found, NoneFound, BudgetSpent, report}
+use Rattle.cyp_tree.specs.Trees.{Moving}
+use Rattle.cyp_search.specs.Reports.{PlainReport, PlainVerdict, Found, NoneFound, report}
+use Rattle.cyp_search.specs.Reports.{Spent as BudgetSpent}
 use Rattle.cyp_prog.specs.ProgramText.{program_text}
 use Rattle.cyp_kernel.specs.Compile.{program_of}
-use Rattle.cyp_cells.specs.declared.text.FlatText.{FlatText}
-use Rattle.cyp_cells.specs.FlatGoal.{IsFlatWithin, flat_node}
-use Rattle.cyp_term.specs.Terms.{lists_eq}
+use Rattle.cyp_cell_text.specs.declared.text.FlatText.{FlatText}
+use Rattle.cyp_cell_goal.specs.FlatGoal.{IsFlatWithin, root_of}
+use Rattle.cyp_top.specs.declared.status.Status.{Status}
+use Rattle.cyp_top.specs.declared.status.Status.TheVariants.{NoProgram, Program, Refused, Spent, Usage}
 
--- the bytes that are written, and the exit code
+-- the bytes that are written, and how the command ends
 pub record Output : Type 0 where
   pub text : List ℕ
-  pub code : ℕ
+  pub status : Status
 
-abbrev pub output : List ℕ → ℕ → Output
-output text code = record { text = text; code = code }
+abbrev pub output : List ℕ → Status → Output
+output text status = record { text = text; status = status }
 
 -- a line with its end
 abbrev pub line : List ℕ → List ℕ
@@ -27,40 +29,35 @@ line text = text ++ 10 ∷ []
 -- the one word is `synth`
 abbrev pub is_synth : List (List ℕ) → Bool
 is_synth [] = false
-is_synth (word ∷ []) = lists_eq (λ m n. m == n) word (codes "synth")
+is_synth (word ∷ []) = pointwise nat_eq word (codes "synth")
 is_synth (word ∷ more ∷ words) = false
 
 -- ---- the search of a flat text
 
--- the moves and weights of nodes, for an unfold limit
+-- the moves and weights of nodes, where an instance may be unfolded this often
 abbrev pub goal_space : ℕ → Moving Rule Node
 goal_space limit = record { moves = moves limit; weight = weight }
 
-abbrev pub node_or : Node → Option Renaming → Node
-node_or n None = n
-node_or n (Some r) = r.node
+-- best-first search with at most 2 unfoldings, 20,000 expansions and 500,000 nodes
+abbrev pub search_report : FlatText → PlainReport Rule Node
+search_report t = report (goal_space 2) 20000 500000 (root_of t)
 
--- the normal form of the goal that the text says
-abbrev pub root_of : FlatText → Node
-root_of t = node_or (flat_node t) (normal (flat_node t))
-
--- best-first search with an unfold limit of 2, a budget of 20,000 expansions and at most 500,000 nodes
-abbrev pub report_of : FlatText → PlainReport Rule Node
-report_of t = report (goal_space 2) 20000 500000 (root_of t)
-
--- the program's text and 0, `no program` and 1, `budget spent` and 2
+-- the program's text, `no program`, `budget spent`
 abbrev pub verdict_output : List ℕ → PlainVerdict Rule Node → Output
-verdict_output name (Found d) = output (program_text (program_of name d)) 0
-verdict_output name NoneFound = output (line (codes "no program")) 1
-verdict_output name BudgetSpent = output (line (codes "budget spent")) 2
+verdict_output name (Found d) = output (program_text (program_of name d)) Program
+verdict_output name NoneFound = output (line (codes "no program")) NoProgram
+verdict_output name BudgetSpent = output (line (codes "budget spent")) Spent
 
 abbrev pub synth_output : FlatText → Output
-synth_output t = verdict_output t.name (report_of t).verdict
+synth_output t = verdict_output t.name (search_report t).verdict
 
 -- ---- the output
 
 abbrev pub not_built : Output
-not_built = output (line (codes "refused: NotBuilt at 0")) 3
+not_built = output (line (codes "refused: NotBuilt at 0")) Refused
+
+abbrev pub words_refused : Output
+words_refused = output (line (codes "words refused")) Usage
 
 -- the text is short enough, and a flat text of this tree within the limits
 abbrev pub IsTaken : List ℕ → FlatText → Type 0
@@ -73,7 +70,7 @@ IsSynthOutput bytes o =
     ⊎ (((t : FlatText) → IsTaken bytes t → ⊥) × (o ≡ not_built))
 
 abbrev pub IsOutputBy : Bool → List ℕ → Output → Type 0
-IsOutputBy false bytes o = o ≡ output (line (codes "words refused")) 4
+IsOutputBy false bytes o = o ≡ words_refused
 IsOutputBy true bytes o = IsSynthOutput bytes o
 
 -- the output for these words and these bytes of the source

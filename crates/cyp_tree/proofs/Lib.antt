@@ -1,4 +1,6 @@
 pub mod Counting
+pub mod FollowingGrafts
+pub mod FollowingTrees
 pub mod HasDerivation
 pub mod HasLive
 pub mod Leaves

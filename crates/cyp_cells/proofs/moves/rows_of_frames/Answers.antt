@@ -1,4 +1,4 @@
-use Rattle.std.proofs.Common.{◌<◌, length, map, option_map, arith}
+use Rattle.std.proofs.Common.{◌<◌, length, option_map, arith}
 use Rattle.cyp_cells.specs.CellMoves.{frame_row, frame_rows}
 use Rattle.cyp_cells.specs.FlatAlts.{plain_alt}
 use Rattle.cyp_cells.proofs.Turns.{filter_map_turn}

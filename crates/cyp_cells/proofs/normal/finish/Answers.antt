@@ -1,6 +1,5 @@
-use Rattle.std.proofs.Common.{◌≡◌, ◌∙◌, ap, sym, false, true}
-use Rattle.cyp_cells.specs.declared.flat.FlatRenaming.{FlatRenaming}
-use Rattle.cyp_cells.specs.CellNormal.{is_flat_within, number_flat, prune_flat, rename_flat, tidy_flat}
+use Rattle.std.proofs.Common.{◌≡◌, ◌∙◌, ap, false, true}
+use Rattle.cyp_cells.specs.CellNormal.{is_flat_within, number_flat, prune_flat, rename_flat}
 use Rattle.cyp_cells.proofs.Limits.{finish_flat_none, finish_flat_some}
 use Rattle.cyp_cells.proofs.normal.finish.Goals as goal
 

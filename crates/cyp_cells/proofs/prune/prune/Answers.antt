@@ -1,6 +1,5 @@
-use Rattle.std.proofs.Common.{◌≡◌, ◌++◌, ◌∙◌, ap}
-use Rattle.cyp_cells.specs.Cells.{cells_numbers, equations_numbers, once}
-use Rattle.cyp_cells.specs.CellNormal.{live_numbers, only, prune_flat}
+use Rattle.std.proofs.Common.{◌∙◌, ap}
+use Rattle.cyp_cells.specs.CellNormal.{only}
 use Rattle.cyp_cells.proofs.Pruning.{prune_flat_parts}
 use Rattle.cyp_cells.proofs.prune.prune.Goals as goal
 

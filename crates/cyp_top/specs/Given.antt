@@ -1,0 +1,21 @@
+-- The output that an answer of the code stands for.
+use Rattle.std.specs.Prelude.{codes}
+use Rattle.cyp_heap.specs.declared.goal.Node.{Node}
+use Rattle.cyp_step.specs.declared.rule.Rule.{Rule}
+use Rattle.cyp_search.specs.Reports.{Found, PlainVerdict}
+use Rattle.cyp_cell_print.specs.Found.{IsFound}
+use Rattle.cyp_top.specs.declared.answer.Answer.{Answer}
+use Rattle.cyp_top.specs.declared.answer.Answer.TheVariants as answers
+use Rattle.cyp_top.specs.declared.status.Status.TheVariants.{NoProgram, Program, Spent}
+use Rattle.cyp_top.specs.Output.{Output, line, not_built, output}
+
+abbrev pub plain_answer : Answer → Output
+plain_answer (answers.Program text) = output text Program
+plain_answer answers.NoProgram = output (line (codes "no program")) NoProgram
+plain_answer answers.Spent = output (line (codes "budget spent")) Spent
+plain_answer answers.Refused = not_built
+
+-- what is found follows the moves of goals
+abbrev pub IsFoundVerdict : PlainVerdict Rule Node → Type 0
+IsFoundVerdict (Found d) = IsFound d
+IsFoundVerdict v = Unit {0}

@@ -1,0 +1,102 @@
+ghost use Rattle.std.specs.Prelude.{◌≡◌, ◌≢◌, ◌≤◌, IfOk, length};
+ghost use Rattle.cyp_search.specs.PlainReports.{plain_report, plain_verdict};
+ghost use Rattle.cyp_top.specs.Given.{IsFoundVerdict, plain_answer};
+ghost use Rattle.cyp_top.specs.Answers.{IsSaid};
+ghost use Rattle.cyp_top.specs.Output.{IsSynthOutput, goal_space, verdict_output};
+ghost use Rattle.cyp_search.specs.Reports.{report};
+ghost use Rattle.cyp_top.specs.declared.status.Status.TheVariants.{Usage};
+
+use crate::status::Status;
+use cyp_cell_goal::root_of_text;
+use cyp_cell_moves::CellsSpace;
+use cyp_cell_print::program_text;
+use cyp_cell_text::read_flat;
+use cyp_cells::CellsNode;
+use cyp_search::search;
+use cyp_space::{Report, Settings, Verdict};
+use cyp_step::Rule;
+use cyp_term::{NoMemory, Shared, Text};
+use std::alloc::Global;
+
+/// What is said of a text.
+#[derive(Debug, Drop)]
+pub(crate) enum Answer {
+    /// The text of a program that meets it.
+    Program(Text),
+    /// The search found none.
+    NoProgram,
+    /// The search came to one of its limits.
+    Spent,
+    /// It is no flat text within the limits.
+    Refused,
+}
+
+impl Answer {
+    /// The bytes that are written.
+    pub(crate) fn text(&self) -> &[u8]
+        ensures { result.now ≡ (plain_answer self.now).text }
+    {
+        match self {
+            Answer::Program(text) => text.as_slice(),
+            Answer::NoProgram => b"no program\n",
+            Answer::Spent => b"budget spent\n",
+            Answer::Refused => b"refused: NotBuilt at 0\n",
+        }
+    }
+
+    pub(crate) fn status(&self) -> Status
+        ensures value { result ≡ (plain_answer self.now).status }
+        ensures said { IsSaid result }
+        ensures heard { result ≢ Usage }
+    {
+        match self {
+            Answer::Program(_) => Status::Program,
+            Answer::NoProgram => Status::NoProgram,
+            Answer::Spent => Status::Spent,
+            Answer::Refused => Status::Refused,
+        }
+    }
+}
+
+/// The report of the search from the root.
+fn report_of(alloc: Global, root: CellsNode) -> Result<Report<Rule, CellsNode>, NoMemory>
+    ensures { IfOk result (λ r. plain_report r ≡ report (goal_space 2) 20000 500000 root) }
+{
+    let space = CellsSpace { unfold: 2 };
+    let root = Shared::new(alloc, root)?;
+    search(alloc, &space, root, &Settings::default())
+}
+
+/// What is said where the search came to this verdict.
+fn verdict_answer(
+    alloc: Global,
+    name: &Text,
+    verdict: &Verdict<Rule, CellsNode>,
+) -> Result<Answer, NoMemory>
+    requires { IsFoundVerdict (plain_verdict verdict.now) }
+    ensures { IfOk result (λ a. plain_answer a ≡ verdict_output name.now (plain_verdict verdict.now)) }
+{
+    match verdict {
+        Verdict::Found(derivation) => {
+            let text = program_text(alloc, name.as_slice(), derivation)?;
+            Ok(Answer::Program(text))
+        }
+        Verdict::None => Ok(Answer::NoProgram),
+        Verdict::Spent => Ok(Answer::Spent),
+    }
+}
+
+/// What is said of a text.
+pub(crate) fn synth_answer(alloc: Global, bytes: &[u8]) -> Result<Answer, NoMemory>
+    requires { length bytes.now ≤ 65536 }
+    ensures { IfOk result (λ a. IsSynthOutput bytes.now (plain_answer a)) }
+{
+    let Some(text) = read_flat(alloc, bytes)? else {
+        return Ok(Answer::Refused);
+    };
+    let Some(root) = root_of_text(alloc, &text)? else {
+        return Ok(Answer::Refused);
+    };
+    let report = report_of(alloc, root)?;
+    verdict_answer(alloc, &text.name, &report.verdict)
+}

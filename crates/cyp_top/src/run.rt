@@ -1,0 +1,92 @@
+ghost use Rattle.std.specs.Prelude.{◌≡◌, ◌≢◌, ◌⊎◌, List, map, string_bytes, false, true, ℕ};
+ghost use Rattle.cyp_top.specs.Answers.{Answers, IsSaid, Sends};
+ghost use Rattle.cyp_top.specs.Output.{IsOutput, Output, is_synth};
+ghost use Rattle.cyp_top.specs.declared.status.Status.TheVariants.{Usage, WriteFault};
+
+use crate::answer::synth_answer;
+use crate::status::Status;
+use cyp_io::{Reading, Sink, Source, Writing, read_all, write_all};
+use cyp_term::Steps;
+use std::alloc::Global;
+use std::sync::ledger::Ledger;
+
+/// The most bytes of a text.
+const LONGEST_TEXT: usize = 65_536;
+
+fn is_synth(words: &[String]) -> bool
+    ensures { result ≡ is_synth (map string_bytes words.now) }
+{
+    match words {
+        [only] => only.as_str() == "synth",
+        _ => false,
+    }
+}
+
+/// Writes the text, and answers the status where all of it was taken.
+fn send<K: Sink>(sink: &mut K, text: &[u8], status: Status) -> Status
+    requires { IsSaid status }
+    ensures { Sends status text.now
+        record { told = K.taken sink.old; faults = K.faults sink.old }
+        record { told = K.taken sink.new; faults = K.faults sink.new } result }
+{
+    match write_all(sink, text) {
+        Writing::Written => status,
+        Writing::Failed => Status::WriteFault,
+    }
+}
+
+/// Reads a text, and writes what is said of it.
+fn synthesise<S: Source, K: Sink>(alloc: Global, source: &mut S, sink: &mut K) -> Status
+    ensures answer { Answers true
+        record { told = S.left source.old; faults = S.faults source.old }
+        record { told = S.left source.new; faults = S.faults source.new }
+        record { told = K.taken sink.old; faults = K.faults sink.old }
+        record { told = K.taken sink.new; faults = K.faults sink.new } result }
+    ensures heard { result ≢ Usage }
+{
+    match read_all(alloc, source, LONGEST_TEXT) {
+        Err(_) => Status::NoMemory,
+        Ok(Reading::Failed) => Status::ReadFault,
+        Ok(Reading::Long) => send(sink, b"refused: NotBuilt at 0\n", Status::Refused),
+        Ok(Reading::Whole(text)) => match synth_answer(alloc, text.as_slice()) {
+            Err(_) => Status::NoMemory,
+            Ok(answer) => send(sink, answer.text(), answer.status()),
+        },
+    }
+}
+
+/// Runs the program over what is handed in. For the one word `synth` it reads a specification from
+/// the source, and writes a program that meets it, or what there is to say instead.
+pub fn run_still<S: Source, K: Sink, L: Ledger>(
+    alloc: Global,
+    words: &[String],
+    source: &mut S,
+    sink: &mut K,
+    steps: &mut Steps<L>,
+) -> Status
+    ensures answer { Answers (is_synth (map string_bytes words.now))
+        record { told = S.left source.old; faults = S.faults source.old }
+        record { told = S.left source.new; faults = S.faults source.new }
+        record { told = K.taken sink.old; faults = K.faults sink.old }
+        record { told = K.taken sink.new; faults = K.faults sink.new } result }
+
+    // Words that are refused, and no others, give this status, and the source isn't read.
+    ensures usage { result ≡ Usage → is_synth (map string_bytes words.now) ≡ false }
+    ensures refused { is_synth (map string_bytes words.now) ≡ false → (result ≡ Usage) ⊎ (result ≡ WriteFault) }
+    ensures unread { is_synth (map string_bytes words.now) ≡ false → source.new ≡ source.old }
+
+    // No step is counted yet.
+    ensures uncounted { steps.new ≡ steps.old }
+{
+    let _ = steps;
+    if is_synth(words) {
+        synthesise(alloc, source, sink)
+    } else {
+        send(sink, b"words refused\n", Status::Usage)
+    }
+}
+
+/// There is one output at most for words and bytes.
+pub fn output_is_one()
+    ensures { (words : List (List ℕ)) (bytes : List ℕ) (a b : Output) → IsOutput words bytes a → IsOutput words bytes b → a ≡ b }
+{}
