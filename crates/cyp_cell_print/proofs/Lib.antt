@@ -6,3 +6,4 @@ mod Looking
 mod Numbering
 mod Listing
 mod ShortNumbers
+mod Appending

@@ -1,6 +1,7 @@
 -- The number of a variable, looked up from a place on.
-use Rattle.std.proofs.Common.{◌≡◌, ◌∙◌, ◌+◌, ◌<◌, ◌≤◌, ◌==◌, ℕ, List, [], ◌∷◌, cond, drop, length, true, false, refl, sym, ap, add-one}
+use Rattle.std.proofs.Common.{◌≡◌, ◌∙◌, ◌+◌, ◌<◌, ◌≤◌, ◌==◌, ℕ, suc, List, [], ◌∷◌, cond, drop, get_or, length, true, false, refl, sym, ap, add-one}
 use Rattle.std.proofs.Math.Seq.{drop-cons}
+use Rattle.std.proofs.lemmas.Bool.{eq-eqb, ne_eqb}
 use Rattle.std.proofs.lemmas.List.{drop_all}
 use Rattle.cyp_cells.specs.Cells.{int_var}
 use Rattle.cyp_kernel.specs.Naming.{name_of}
@@ -13,12 +14,26 @@ names_by-nil : (vars : List ℕ) (v : ℕ) → name_of (names_by vars []) (int_v
 names_by-nil [] v = refl
 names_by-nil (w ∷ ws) v = refl
 
+-- past the last variable or the last number
 pub looked-past_vars : (vars numbers : List ℕ) (i v : ℕ) → length vars ≤ i → looked_from vars numbers i v ≡ 0
 looked-past_vars vars numbers i v h = ap (λ ws. name_of (names_by ws (drop i numbers)) (int_var v)) (drop_all i vars h)
 
 pub looked-past_numbers : (vars numbers : List ℕ) (i v : ℕ) → length numbers ≤ i → looked_from vars numbers i v ≡ 0
 looked-past_numbers vars numbers i v h = ap (λ ks. name_of (names_by (drop i vars) ks) (int_var v)) (drop_all i numbers h) ∙ names_by-nil (drop i vars) v
 
-pub looked-here : (vars numbers : List ℕ) (i v w k : ℕ) → drop i vars ≡ w ∷ drop (i + 1) vars → drop i numbers ≡ k ∷ drop (i + 1) numbers
-    → looked_from vars numbers i v ≡ cond (w == v) k (looked_from vars numbers (i + 1) v)
-looked-here vars numbers i v w k ve ke = (λ j. name_of (names_by (ve j) (ke j)) (int_var v))
+drop-at : (xs : List ℕ) (i : ℕ) → i < length xs → drop i xs ≡ get_or xs i 0 ∷ drop (i + 1) xs
+drop-at xs i h = rw add-one (drop-cons xs i 0 h)
+
+looked-at : (vars numbers : List ℕ) (i v : ℕ) → i < length vars → i < length numbers
+    → looked_from vars numbers i v ≡ cond (get_or vars i 0 == v) (get_or numbers i 0) (looked_from vars numbers (i + 1) v)
+looked-at vars numbers i v h k = (λ j. name_of (names_by (drop-at vars i h j) (drop-at numbers i k j)) (int_var v))
+
+-- at the variable
+pub looked-here : (vars numbers : List ℕ) (i v : ℕ) → i < length vars → i < length numbers → get_or vars i 0 ≡ v → looked_from vars numbers i v ≡ get_or numbers i 0
+looked-here vars numbers i v h k e =
+    looked-at vars numbers i v h k ∙ ap (λ b. cond b (get_or numbers i 0) (looked_from vars numbers (i + 1) v)) (eq-eqb (get_or vars i 0) v e)
+
+-- at another one
+pub looked-behind : (vars numbers : List ℕ) (i v : ℕ) → i < length vars → i < length numbers → (get_or vars i 0 ≡ v → ⊥) → looked_from vars numbers i v ≡ looked_from vars numbers (i + 1) v
+looked-behind vars numbers i v h k ne =
+    looked-at vars numbers i v h k ∙ ap (λ b. cond b (get_or numbers i 0) (looked_from vars numbers (i + 1) v)) (ne_eqb (get_or vars i 0) v ne)

@@ -23,10 +23,10 @@ use Rattle.cyp_cells.specs.Left.{left_by, store_at}
 use Rattle.cyp_cell_moves.proofs.ClearCells.{clear_from_cells}
 use Rattle.cyp_cell_moves.proofs.EachMove.{each_move}
 use Rattle.cyp_cell_moves.proofs.LeftByRules.{frame_leaves, plain_from_raw, write_leaves}
-use Rattle.cyp_cell_moves.proofs.MovesKeep.{PremisesKept, frame_row_keeps, read_row_keeps, write_row_keeps}
+use Rattle.cyp_cell_moves.specs.CellAlts.{PremisesKept, alt_of}
+use Rattle.cyp_cell_moves.proofs.MovesKeep.{frame_row_keeps, read_row_keeps, write_row_keeps}
 use Rattle.cyp_cell_moves.proofs.PremisesOfCells.{one_renaming, premises_frame, premises_read, premises_write}
-use Rattle.cyp_cell_moves.proofs.RowOfCells.{row_of}
-use Rattle.cyp_cell_moves.proofs.MovesOfCells.{alt_of}
+use Rattle.cyp_cell_moves.proofs.TableOfCells.{built_covers, moves_of_cells}
 
 -- a rule that leaves one goal
 abbrev pub IsGoing : Rule → Type 0
@@ -128,7 +128,7 @@ each_moved f h = each_move (IsMoved f) f record {
 -- ---- the moves of the general table
 
 built : (limit : ℕ) (f : Flat) → IsCells f → moves limit (node_of f) ≡ map alt_of (flat_moves f)
-built limit f h = ?
+built limit f h = moves_of_cells is_built built_covers limit f h
 
 abbrev IsNodeMoved : Flat → AltOf Rule Node → Type 0
 IsNodeMoved f a = Moved f a.rule a.premises

@@ -1,7 +1,7 @@
 -- Numbers that are read digit by digit.
 use Rattle.std.proofs.Common.{◌≡◌, ◌∙◌, ◌+◌, ◌-◌, ◌*◌, ◌<◌, ◌≤◌, ◌&&◌, ℕ, List, [], ◌∷◌, Bool, Option, Some, None, true, false, cond, nat_le, refl, sym, ap, arith}
 use Rattle.std.specs.List.{list_all}
-use Rattle.std.proofs.lemmas.Bool.{lt-leb, leb-false}
+use Rattle.std.proofs.lemmas.Bool.{leb-false, leb-true, lt-leb}
 use Rattle.std.proofs.lemmas.Option.{same_Some, none-some}
 use Rattle.cyp_kernel.specs.Compile.{is_digit, number_of}
 use Rattle.cyp_cell_print.specs.ShortNumbers.{is_short_from, with_digit}
@@ -37,3 +37,12 @@ refused_by false short n cs s e = refl
 
 pub digit_refused : (n c : ℕ) (cs : List ℕ) → with_digit n c ≡ None → is_short_from n (c ∷ cs) ≡ false
 digit_refused n c cs e = refused_by (is_digit c) (nat_le (10 * n + (c - 48)) 65535) (10 * n + (c - 48)) cs refl e
+
+short_by : (digit short : Bool) (n n' : ℕ) → nat_le n 65535 ≡ short → cond (digit && short) (Some n) None ≡ Some n' → n' ≤ 65535
+short_by true true n n' s e = let same : n ≡ n' = same_Some n n' e in let small : n ≤ 65535 = leb-true n 65535 s in omega arith
+short_by true false n n' s e = absurd (none-some n' e)
+short_by false short n n' s e = absurd (none-some n' e)
+
+-- and the number stays short
+pub digit_short : (n c n' : ℕ) → with_digit n c ≡ Some n' → n' ≤ 65535
+digit_short n c n' e = short_by (is_digit c) (nat_le (10 * n + (c - 48)) 65535) (10 * n + (c - 48)) n' refl e
