@@ -7,3 +7,5 @@ mod Numbering
 mod Listing
 mod ShortNumbers
 mod Appending
+mod SolvedTrees
+mod Loop

@@ -1,6 +1,7 @@
 -- Down the chain of a derivation: what is written, and what is still to be.
-use Rattle.std.proofs.Common.{◌≡◌, ◌∙◌, ◌++◌, ◌+◌, ◌≤◌, ℕ, suc, List, [], ◌∷◌, false, length, refl, sym, ap, subst, arith, append-nil, append_assoc, length-append}
+use Rattle.std.proofs.Common.{◌≡◌, ◌∙◌, ◌++◌, ◌+◌, ◌≤◌, ℕ, suc, List, [], ◌∷◌, false, true, length, refl, sym, ap, subst, arith, append-nil, append_assoc, length-append}
 use Rattle.std.specs.Prelude.{zip}
+use Rattle.std.proofs.lemmas.Bool.Decides.{nat_tests}
 use Rattle.std.proofs.lemmas.List.{length-map}
 use Rattle.cyp_goal.specs.Normal.{Renaming}
 use Rattle.cyp_heap.specs.declared.goal.Node.{Node}
@@ -18,6 +19,7 @@ use Rattle.cyp_step.specs.declared.rule.Rule.TheVariants.{ByEmp, ByFrame, ByInco
 use Rattle.cyp_cells.specs.declared.flat.Flat.{Flat}
 use Rattle.cyp_cells.specs.declared.flat.FlatRenaming.{FlatRenaming}
 use Rattle.cyp_cells.specs.Cells.{int_var, node_of}
+use Rattle.cyp_cells.specs.CellNormal.{is_flat_within}
 use Rattle.cyp_cells.specs.CellMoves.{IsCells}
 use Rattle.cyp_cell_moves.proofs.Limits.{length-count_from}
 use Rattle.cyp_tree.specs.Derivations.{Derived, More, NoMore}
@@ -131,3 +133,7 @@ ends f r whole start text text' numbers count h at te =
       ap (body_text [] 1) (opened (node_of f) r NoMore false 0 1 (names_at f numbers) count [] rules.0)
       ∙ end_text (node_of f) r (names_at f numbers) (suc count) rules.0))
     ∙ at.written
+
+-- a goal that a search keeps has few program variables
+pub few_parameters : (f : Flat) → IsCells f → length f.program ≤ 12
+few_parameters f h = let w : is_flat_within f ≡ true = h.within in grind (arith, nat_tests, w)

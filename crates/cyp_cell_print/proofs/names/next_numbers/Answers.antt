@@ -14,4 +14,7 @@ returns c =
     let found = sym c.in_ok-left.ensures ∙ c.in-Some.is in
     let normal = sym c.in_ok-normal.ensures ∙ c.in-Some-2.is in
     let same = numbers_of_normal c.args.goal.now c.args.rule.now c.args.numbers.items c.args.new left m found normal c.requires.named in
-    IfOk-weaker c.numbers_of.result _ _ (λ ns e. ?) c.numbers_of.ensures
+    IfOk-weaker c.numbers_of.result _ _ (λ ns e.
+      e
+      ∙ (λ k. map (λ v. name_of (names_by ((c.as_slice.ensures ∙ c.in_ok-program.ensures) k) ((c.as_slice-2.ensures.value ∙ c.in_ok-numbers.ensures) k)) (int_var v)) (c.as_slice-3.ensures k))
+      ∙ same) c.numbers_of.ensures
