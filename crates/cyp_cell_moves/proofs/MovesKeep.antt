@@ -1,19 +1,18 @@
 -- Each premise of each move of a goal of cells alone is such a goal.
-use Rattle.std.proofs.Common.{◌≡◌, ℕ, zero, suc, Bool, true, false, List, [], ◌∷◌, ◌++◌, length, Option, Some, None, option_to_list, refl, subst}
-use Rattle.std.proofs.lemmas.List.Elements.{All-append, All-cons, All-nil}
+use Rattle.std.proofs.Common.{◌≡◌, ℕ, List, [], ◌∷◌, Option, Some, None, refl, subst}
+use Rattle.std.proofs.lemmas.List.Elements.{All-cons, All-nil}
 use Rattle.std.proofs.lemmas.Option.{none-some, same_Some}
-use Rattle.std.specs.List.{All, cons_option, filter_map, slice_get}
-use Rattle.cyp_pred.specs.Unfold.{count_from}
+use Rattle.std.specs.List.{All, slice_get}
 use Rattle.cyp_moves.specs.Moves.{cost_of}
 use Rattle.cyp_space.specs.Alts.{AltOf}
 use Rattle.cyp_step.specs.declared.rule.Rule.{Rule}
-use Rattle.cyp_step.specs.declared.rule.Rule.TheVariants.{ByEmp, ByFrame, ByInconsistent, ByRead, ByWrite}
+use Rattle.cyp_step.specs.declared.rule.Rule.TheVariants.{ByFrame, ByRead, ByWrite}
 use Rattle.cyp_cells.specs.declared.flat.Flat.{Flat}
 use Rattle.cyp_cells.specs.declared.flat.FlatCell.{FlatCell}
 use Rattle.cyp_cells.specs.declared.flat.FlatEquation.{FlatEquation}
 use Rattle.cyp_cells.specs.CellNormal.{normal_flat}
 use Rattle.cyp_cells.specs.declared.flat.FlatRenaming.{FlatRenaming}
-use Rattle.cyp_cells.specs.CellMoves.{first_at, flat_moves, flat_row, frame_at, frame_row, frame_rows, heap_moves, is_consistent, is_done, last_row, read_at, read_row, read_rows_from, write_at, write_focus, write_rows, write_to, IsCells}
+use Rattle.cyp_cells.specs.CellMoves.{flat_moves, flat_row, frame_at, frame_row, read_at, read_row, write_at, IsCells}
 use Rattle.cyp_cell_moves.proofs.EachMove.{each_move}
 use Rattle.cyp_cell_moves.proofs.FrameKeeps.{frame_raw, write_raw}
 use Rattle.cyp_cell_moves.proofs.Kept.{normal_kept}

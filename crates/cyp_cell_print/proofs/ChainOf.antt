@@ -1,5 +1,5 @@
 -- A derivation that follows the moves of a goal of cells alone is a chain of five rules.
-use Rattle.std.proofs.Common.{◌≡◌, ◌∙◌, ◌++◌, ◌+◌, ℕ, suc, List, [], ◌∷◌, Bool, true, false, refl, sym, ap, subst}
+use Rattle.std.proofs.Common.{◌≡◌, ◌∙◌, ◌++◌, ◌+◌, ℕ, suc, List, [], Bool, true, false, refl, sym, ap, subst}
 use Rattle.std.specs.List.{Contains}
 use Rattle.cyp_goal.specs.Normal.{Renaming}
 use Rattle.cyp_heap.specs.declared.goal.Node.{Node}

@@ -9,3 +9,4 @@ mod ShortNumbers
 mod Appending
 mod SolvedTrees
 mod Loop
+mod Whole

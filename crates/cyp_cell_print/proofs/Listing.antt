@@ -1,5 +1,5 @@
 -- Parameters with commas between them.
-use Rattle.std.proofs.Common.{◌≡◌, ◌∙◌, ◌+◌, ◌-◌, ◌<◌, ℕ, zero, suc, List, [], ◌∷◌, ◌++◌, refl, sym, ap, arith, append_assoc, append-nil, add-one}
+use Rattle.std.proofs.Common.{◌≡◌, ◌∙◌, ◌+◌, ◌-◌, ◌<◌, ℕ, zero, suc, [], ◌++◌, refl, sym, ap, arith, append_assoc, append-nil, add-one}
 use Rattle.std.specs.Prelude.{codes}
 use Rattle.cyp_prog.specs.ProgramText.{Bytes, join_with_comma, params_text, var_text}
 use Rattle.cyp_cell_print.specs.Lines.{parameter_text}

@@ -4,7 +4,6 @@ use Rattle.std.specs.Prelude.{slice_get}
 use Rattle.std.proofs.lemmas.List.{length-map}
 use Rattle.std.proofs.lemmas.Option.{none-some, same_Some}
 use Rattle.cyp_heap.specs.declared.goal.Node.{Node}
-use Rattle.cyp_kernel.specs.Companions.{Proof}
 use Rattle.cyp_kernel.specs.Compile.{bound_count}
 use Rattle.cyp_prog.specs.ProgramText.{Bytes}
 use Rattle.cyp_space.specs.declared.solved.Solved.{Solved}
@@ -13,8 +12,7 @@ use Rattle.cyp_step.specs.declared.rule.Rule.{Rule}
 use Rattle.cyp_cells.specs.declared.flat.Flat.{Flat}
 use Rattle.cyp_cells.specs.Cells.{int_var, node_of}
 use Rattle.cyp_cells.specs.CellMoves.{IsCells}
-use Rattle.cyp_tree.specs.Derivations.{Derived, More, NoMore, plain_derivation, plain_derivations}
-use Rattle.cyp_tree.specs.Follows.{root}
+use Rattle.cyp_tree.specs.Derivations.{plain_derivation, plain_derivations}
 use Rattle.cyp_cell_print.specs.Lines.{names_at, next_numbers, own_lines}
 use Rattle.cyp_cell_print.proofs.SolvedTrees.{solved_further, solved_last, solved_root}
 use Rattle.cyp_cell_print.proofs.Steps.{IsAt, ends, step_keeps}
@@ -32,8 +30,8 @@ no_items (x ∷ xs) h = let bad : ⊥ = omega arith in absurd bad
 
 -- a list without one
 pub without_first : {A B : Type 0} (xs : List A) (o : Option B) (Q : B → Type 0) → ((x : B) → o ≡ Some x → ⊥) → MatchOption o (length xs ≤ 0) Q → xs ≡ []
-without_first xs None Q no h = no_items xs h
-without_first xs (Some x) Q no h = absurd (no x refl)
+without_first xs None Q none h = no_items xs h
+without_first xs (Some x) Q none h = absurd (none x refl)
 
 -- ---- one turn
 
@@ -55,10 +53,11 @@ further s part parts f whole start text text' numbers numbers' count count' h ne
     (subst (IsAt whole start text numbers count) (solved_further s (node_of f) part split.0 ne (sym pe ∙ split.1)) at) te ke ce
 
 -- the last lines
-pub finished : (s : Solved Rule Node) (parts : List (Solved Rule Node)) (f : Flat) (whole : Bytes) (start : ℕ) (text text' : Bytes) (numbers : List ℕ) (count : ℕ)
+pub finished : (s : Solved Rule Node) (parts : List (Solved Rule Node)) (f : Flat) (whole : Bytes) (start : ℕ) (text text' : Bytes) (numbers given : List ℕ) (count new : ℕ)
     → IsCells f → node_of f ≡ (out-Solved Rule Node s).node → parts ≡ (out-Solved Rule Node s).parts → parts ≡ []
-    → IsAt whole start text numbers count (plain_derivation s)
-    → text' ≡ text ++ own_lines (names_at f numbers) (suc count) (node_of f) (out-Solved Rule Node s).rule → text' ≡ whole
-finished s parts f whole start text text' numbers count h ne pe none at te =
+    → IsAt whole start text numbers count (plain_derivation s) → given ≡ numbers → new ≡ suc count
+    → text' ≡ text ++ own_lines (names_at f given) new (node_of f) (out-Solved Rule Node s).rule → text' ≡ whole
+finished s parts f whole start text text' numbers given count new h ne pe none at ge ke te =
     ends f (out-Solved Rule Node s).rule whole start text text' numbers count h
-    (subst (IsAt whole start text numbers count) (solved_last s (node_of f) ne (sym pe ∙ none)) at) te
+    (subst (IsAt whole start text numbers count) (solved_last s (node_of f) ne (sym pe ∙ none)) at)
+    (te ∙ (λ k. text ++ own_lines (names_at f (ge k)) (ke k) (node_of f) (out-Solved Rule Node s).rule))

@@ -1,5 +1,5 @@
 -- What the moves of a goal of cells alone are: an end, or a rule that leaves one such goal.
-use Rattle.std.proofs.Common.{◌≡◌, ◌∙◌, ◌==◌, ℕ, List, [], ◌∷◌, map, Option, Some, None, option_map, option_and_then, Bool, true, false, cond, refl, sym, ap, subst}
+use Rattle.std.proofs.Common.{◌≡◌, ◌∙◌, ℕ, List, [], ◌∷◌, map, Option, Some, None, option_map, option_and_then, true, cond, refl, sym, ap, subst}
 use Rattle.std.specs.Prelude.{slice_get}
 use Rattle.std.specs.List.{All, Contains}
 use Rattle.std.proofs.lemmas.Bool.{eq-eqb}
@@ -81,12 +81,12 @@ row_moved f r o a going left premises e kept =
     let found : IsRowOf r o a = row_is r o a e in
     let keeps : PremisesKept (alt_by r found.renaming) = subst PremisesKept (sym found.is) kept in
     subst (IsMoved f) found.is (
-      Went found.renaming going
-      (record {
-        premise = ap (option_and_then normal_flat) left ∙ found.premise;
-        renamed = premises ∙ ap (option_map one_renaming) found.premise;
-        kept = All-head IsCells found.renaming.flat [] keeps;
-      }) refl)
+    Went found.renaming going
+    (record {
+      premise = ap (option_and_then normal_flat) left ∙ found.premise;
+      renamed = premises ∙ ap (option_map one_renaming) found.premise;
+      kept = All-head IsCells found.renaming.flat [] keeps;
+    }) refl)
 
 -- ---- each kind
 

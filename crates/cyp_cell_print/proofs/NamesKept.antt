@@ -1,14 +1,11 @@
 -- What the program variables of a premise are called, at goals of cells alone.
-use Rattle.std.proofs.Common.{◌≡◌, ◌∙◌, ◌++◌, ◌+◌, ℕ, suc, zero, List, [], ◌∷◌, length, map, Option, Some, None, option_and_then, cond, true, refl, sym, ap, subst, arith}
+use Rattle.std.proofs.Common.{◌≡◌, ◌∙◌, ◌++◌, ℕ, List, [], ◌∷◌, length, map, Option, Some, None, option_and_then, cond, true, refl, sym, ap, subst, arith}
 use Rattle.std.specs.Prelude.{slice_get, zip}
-use Rattle.std.proofs.lemmas.List.{map-append, length-map}
+use Rattle.std.proofs.lemmas.List.{length-map}
 use Rattle.std.proofs.lemmas.Option.{none-some, cond_some}
-use Rattle.cyp_goal.specs.Normal.{Renaming}
-use Rattle.cyp_heap.specs.declared.goal.Node.{Node}
 use Rattle.cyp_kernel.specs.Compile.{head_names, is_binder, renamings, with_new_name}
 use Rattle.cyp_kernel.specs.Naming.{Names, name_of}
 use Rattle.cyp_kernel.specs.Companions.{Proof}
-use Rattle.cyp_step.specs.Changes.{new_int}
 use Rattle.cyp_step.specs.FlatRules.{is_place}
 use Rattle.cyp_step.specs.Step.{renamed_premises}
 use Rattle.cyp_step.specs.declared.rule.Rule.{Rule}

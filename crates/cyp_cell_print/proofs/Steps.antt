@@ -1,6 +1,5 @@
 -- Down the chain of a derivation: what is written, and what is still to be.
-use Rattle.std.proofs.Common.{◌≡◌, ◌∙◌, ◌++◌, ◌+◌, ◌≤◌, ℕ, suc, List, [], ◌∷◌, false, true, length, refl, sym, ap, subst, arith, append-nil, append_assoc, length-append}
-use Rattle.std.specs.Prelude.{zip}
+use Rattle.std.proofs.Common.{◌≡◌, ◌∙◌, ◌++◌, ◌+◌, ◌≤◌, ℕ, suc, List, [], ◌∷◌, false, true, length, refl, sym, ap, arith, append-nil, append_assoc, length-append}
 use Rattle.std.proofs.lemmas.Bool.Decides.{nat_tests}
 use Rattle.std.proofs.lemmas.List.{length-map}
 use Rattle.cyp_goal.specs.Normal.{Renaming}
@@ -9,7 +8,6 @@ use Rattle.cyp_kernel.specs.Companions.{Proof, Proofs, called_count}
 use Rattle.cyp_kernel.specs.Compile.{bodies, body, bound_count, head_names, renamings, tail_renamings, with_new_name}
 use Rattle.cyp_kernel.specs.Naming.{Names, expr_of}
 use Rattle.cyp_kernel.specs.Statements.{focus_content, pre_cell_at, rule_body}
-use Rattle.cyp_moves.specs.Moves.{moves}
 use Rattle.cyp_pred.specs.Unfold.{count_from}
 use Rattle.cyp_prog.specs.ProgramText.{Bytes, body_text, statement_text}
 use Rattle.cyp_prog.specs.Programs.{Body, Failing, Loading, Storing}
@@ -23,11 +21,11 @@ use Rattle.cyp_cells.specs.CellNormal.{is_flat_within}
 use Rattle.cyp_cells.specs.CellMoves.{IsCells}
 use Rattle.cyp_cell_moves.proofs.Limits.{length-count_from}
 use Rattle.cyp_tree.specs.Derivations.{Derived, More, NoMore}
-use Rattle.cyp_tree.specs.Follows.{Follows, root, roots}
+use Rattle.cyp_tree.specs.Follows.{root}
 use Rattle.cyp_cell_print.specs.Found.{IsFound}
 use Rattle.cyp_cell_print.specs.Lines.{lines_from, main_lines, names_at, next_numbers, own_lines}
 use Rattle.cyp_cell_print.proofs.ChainOf.{GoesOn, HasCellRules, IsCellRule, goes_on, moved_at, opened, rules_of}
-use Rattle.cyp_cell_print.proofs.Moved.{IsGoing, Leads, Moved}
+use Rattle.cyp_cell_print.proofs.Moved.{IsGoing, Leads}
 use Rattle.cyp_cell_print.proofs.NamesKept.{names_next, numbers_next}
 
 -- at a derivation: what is written, and the numbers of the root's program variables
@@ -98,13 +96,13 @@ step_keeps f r d ds whole start text text' numbers numbers' count count' h at te
     let bound : bound_count r count ≤ count + length own = bound_count-le (node_of f) r (names_at f numbers) count (suc count) on.going in
     record {
       written =
-        (λ k. te k ++ lines_from (ne k) (ce k) d)
-        ∙ append_assoc text own (lines_from (next_numbers f r numbers (suc count)) (bound_count r count) d)
-        ∙ ap (λ t. text ++ t) (sym (lines_on f r on.renaming d ds numbers count on.going on.leads on.below))
-        ∙ at.written;
+          (λ k. te k ++ lines_from (ne k) (ce k) d)
+          ∙ append_assoc text own (lines_from (next_numbers f r numbers (suc count)) (bound_count r count) d)
+          ∙ ap (λ t. text ++ t) (sym (lines_on f r on.renaming d ds numbers count on.going on.leads on.below))
+          ∙ at.written;
       named =
-        ap length ne ∙ numbers_next f r on.renaming numbers (suc count) on.leads
-        ∙ sym (length-map on.renaming.flat.program int_var) ∙ ap (λ (n : Node). length n.goal.program) (sym on.below);
+          ap length ne ∙ numbers_next f r on.renaming numbers (suc count) on.leads
+          ∙ sym (length-map on.renaming.flat.program int_var) ∙ ap (λ (n : Node). length n.goal.program) (sym on.below);
       counted = let was : count + start ≤ 12 + length text = at.counted in omega arith;
       found = (at.found.0, at.found.1.1.0);
     }
@@ -130,8 +128,8 @@ ends f r whole start text text' numbers count h at te =
     let rules : HasCellRules (Derived (node_of f) r NoMore) = rules_of at.found.0 (Derived (node_of f) r NoMore) f refl h at.found.1 in
     te
     ∙ ap (λ t. text ++ t) (sym (
-      ap (body_text [] 1) (opened (node_of f) r NoMore false 0 1 (names_at f numbers) count [] rules.0)
-      ∙ end_text (node_of f) r (names_at f numbers) (suc count) rules.0))
+    ap (body_text [] 1) (opened (node_of f) r NoMore false 0 1 (names_at f numbers) count [] rules.0)
+    ∙ end_text (node_of f) r (names_at f numbers) (suc count) rules.0))
     ∙ at.written
 
 -- a goal that a search keeps has few program variables

@@ -1,5 +1,5 @@
 -- The lines of a derivation of goals of cells alone, step by step.
-use Rattle.std.specs.Prelude.{[], ◌++◌, List, codes, false, None, Option, Some, length, map, suc, zero, zip, ℕ, ◌∷◌}
+use Rattle.std.specs.Prelude.{[], ◌++◌, List, codes, false, None, Option, Some, length, map, suc, zero, zip, ℕ}
 use Rattle.std.specs.Option.{option_and_then}
 use Rattle.cyp_cells.specs.CellNormal.{normal_flat}
 use Rattle.cyp_cells.specs.Cells.{int_var, node_of}

@@ -1,9 +1,9 @@
-use Rattle.std.proofs.Common.{◌≡◌, ◌∙◌, ◌++◌, ◌+◌, length, sym, ap, add-one}
-use Rattle.std.proofs.lemmas.Result.{IfOk-weaker}
+use Rattle.std.proofs.Common.{◌≡◌, ◌∙◌, ◌++◌, ◌+◌, length, sym, add-one}
+use Rattle.std.proofs.lemmas.Result.{on_ok_weaker}
 use Rattle.cyp_tree.specs.Derivations.{plain_derivation}
 use Rattle.cyp_tree.specs.Follows.{root}
 use Rattle.cyp_cells.specs.Cells.{node_of}
-use Rattle.cyp_cell_print.specs.Lines.{main_lines, names_at, own_lines}
+use Rattle.cyp_cell_print.specs.Lines.{main_lines}
 use Rattle.cyp_cell_print.proofs.Loop.{finished, further, named_at, without_first}
 use Rattle.cyp_cell_print.proofs.SolvedTrees.{solved_root}
 use Rattle.cyp_cell_print.proofs.Steps.{few_parameters, starts}
@@ -32,12 +32,11 @@ loop-part-preserved c =
 
 pub returns : goal.returns
 returns c =
-    IfOk-weaker c.add_own_lines.result _ _
-    (λ u e. finished c.loop-part.left.now c.as_slice.result.now c.flat-2.result.now
-      (c.args.text.now.items ++ main_lines (plain_derivation c.args.found.now)) (length c.args.text.now.items)
-      c.loop-part.text.items c.add_own_lines.new.text.items c.loop-part.scope.numbers.items c.loop-part.scope.count
-      c.flat-2.ensures.cells (c.flat-2.ensures.same ∙ c.get-2.ensures) c.as_slice.ensures
-      (without_first c.as_slice.result.now c.first.result _ c.in_default.not-Some c.first.ensures.item.3)
-      c.loop-part.invariant
-      ?)
+    on_ok_weaker c.add_own_lines.result
+    (finished c.loop-part.left.now c.as_slice.result.now c.flat-2.result.now
+    (c.args.text.now.items ++ main_lines (plain_derivation c.args.found.now)) (length c.args.text.now.items)
+    c.loop-part.text.items c.add_own_lines.new.text.items c.loop-part.scope.numbers.items c.as_slice-2.result.now c.loop-part.scope.count (c.loop-part.scope.count + 1)
+    c.flat-2.ensures.cells (c.flat-2.ensures.same ∙ c.get-2.ensures) c.as_slice.ensures
+    (without_first c.as_slice.result.now c.first.result _ c.in_default.not-Some c.first.ensures.item.3)
+    c.loop-part.invariant c.as_slice-2.ensures.value (add-one c.loop-part.scope.count))
     c.add_own_lines.ensures

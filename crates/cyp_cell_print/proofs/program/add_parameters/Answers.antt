@@ -1,4 +1,4 @@
-use Rattle.std.proofs.Common.{◌++◌, ◌+◌, ◌-◌, ◌≡◌, ◌∙◌, [], ap, sym, arith, append-nil}
+use Rattle.std.proofs.Common.{◌++◌, ◌+◌, ◌-◌, ◌≡◌, ◌∙◌, ap, sym, arith, append-nil}
 use Rattle.cyp_cell_print.specs.Lines.{parameter_text}
 use Rattle.cyp_cell_print.proofs.Appending.{gone_over}
 use Rattle.cyp_cell_print.proofs.Listing.{join-parameters, parameters_from, parameters_from-turn}
