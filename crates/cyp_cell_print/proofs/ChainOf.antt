@@ -71,7 +71,7 @@ abbrev mutual
   HaveCellRules NoMore = Unit {0}
   HaveCellRules (More d ds) = HasCellRules d × HaveCellRules ds
 
-going_is : (r : Rule) → IsGoing r → IsCellRule r
+pub going_is : (r : Rule) → IsGoing r → IsCellRule r
 going_is (ByRead i) g = tt
 going_is (ByFrame i) g = tt
 going_is (ByWrite i) g = tt

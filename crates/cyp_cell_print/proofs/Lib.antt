@@ -10,3 +10,5 @@ mod Appending
 mod SolvedTrees
 mod Loop
 mod Whole
+mod Rows
+mod Example

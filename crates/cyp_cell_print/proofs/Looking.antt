@@ -14,10 +14,7 @@ names_by-nil : (vars : List ℕ) (v : ℕ) → name_of (names_by vars []) (int_v
 names_by-nil [] v = refl
 names_by-nil (w ∷ ws) v = refl
 
--- past the last variable or the last number
-pub looked-past_vars : (vars numbers : List ℕ) (i v : ℕ) → length vars ≤ i → looked_from vars numbers i v ≡ 0
-looked-past_vars vars numbers i v h = ap (λ ws. name_of (names_by ws (drop i numbers)) (int_var v)) (drop_all i vars h)
-
+-- past the last number
 pub looked-past_numbers : (vars numbers : List ℕ) (i v : ℕ) → length numbers ≤ i → looked_from vars numbers i v ≡ 0
 looked-past_numbers vars numbers i v h = ap (λ ks. name_of (names_by (drop i vars) ks) (int_var v)) (drop_all i numbers h) ∙ names_by-nil (drop i vars) v
 
@@ -27,11 +24,6 @@ drop-at xs i h = rw add-one (drop-cons xs i 0 h)
 looked-at : (vars numbers : List ℕ) (i v : ℕ) → i < length vars → i < length numbers
     → looked_from vars numbers i v ≡ cond (get_or vars i 0 == v) (get_or numbers i 0) (looked_from vars numbers (i + 1) v)
 looked-at vars numbers i v h k = (λ j. name_of (names_by (drop-at vars i h j) (drop-at numbers i k j)) (int_var v))
-
--- at the variable
-pub looked-here : (vars numbers : List ℕ) (i v : ℕ) → i < length vars → i < length numbers → get_or vars i 0 ≡ v → looked_from vars numbers i v ≡ get_or numbers i 0
-looked-here vars numbers i v h k e =
-    looked-at vars numbers i v h k ∙ ap (λ b. cond b (get_or numbers i 0) (looked_from vars numbers (i + 1) v)) (eq-eqb (get_or vars i 0) v e)
 
 -- at another one
 pub looked-behind : (vars numbers : List ℕ) (i v : ℕ) → i < length vars → i < length numbers → (get_or vars i 0 ≡ v → ⊥) → looked_from vars numbers i v ≡ looked_from vars numbers (i + 1) v

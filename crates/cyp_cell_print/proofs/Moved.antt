@@ -127,7 +127,8 @@ each_moved f h = each_move (IsMoved f) f record {
 
 -- ---- the moves of the general table
 
-built : (limit : ℕ) (f : Flat) → IsCells f → moves limit (node_of f) ≡ map alt_of (flat_moves f)
+-- the general moves of a goal of cells alone
+pub built : (limit : ℕ) (f : Flat) → IsCells f → moves limit (node_of f) ≡ map alt_of (flat_moves f)
 built limit f h = moves_of_cells is_built built_covers limit f h
 
 abbrev IsNodeMoved : Flat → AltOf Rule Node → Type 0

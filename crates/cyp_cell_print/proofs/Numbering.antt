@@ -8,6 +8,3 @@ count_from-turn i n h =
     let e : n - i ≡ suc (n - (i + 1)) = omega arith in
     let s : suc (i + 1) ≡ i + 1 + 1 = omega arith in
     ap (count_from (i + 1)) e ∙ ap (λ k. (i + 1) ∷ count_from k (n - (i + 1))) s
-
-pub count_from-end : (i n : ℕ) → n - i ≡ 0 → count_from (i + 1) (n - i) ≡ []
-count_from-end i n e = ap (count_from (i + 1)) e

@@ -24,7 +24,7 @@ use Rattle.cyp_tree.specs.Derivations.{Derived, More, NoMore}
 use Rattle.cyp_tree.specs.Follows.{root}
 use Rattle.cyp_cell_print.specs.Found.{IsFound}
 use Rattle.cyp_cell_print.specs.Lines.{lines_from, main_lines, names_at, next_numbers, own_lines}
-use Rattle.cyp_cell_print.proofs.ChainOf.{GoesOn, HasCellRules, IsCellRule, goes_on, moved_at, opened, rules_of}
+use Rattle.cyp_cell_print.proofs.ChainOf.{GoesOn, HasCellRules, IsCellRule, goes_on, going_is, moved_at, opened, rules_of}
 use Rattle.cyp_cell_print.proofs.Moved.{IsGoing, Leads}
 use Rattle.cyp_cell_print.proofs.NamesKept.{names_next, numbers_next}
 
@@ -63,12 +63,6 @@ bound_count-le n r names count new g = absurd g
 
 -- ---- one step
 
-going_rule : (r : Rule) → IsGoing r → IsCellRule r
-going_rule (ByRead i) g = tt
-going_rule (ByFrame i) g = tt
-going_rule (ByWrite i) g = tt
-going_rule r g = absurd g
-
 lines_on : (f : Flat) (r : Rule) (m : FlatRenaming) (d : Proof) (ds : Proofs) (numbers : List ℕ) (count : ℕ) → IsGoing r → Leads f r m → root d ≡ node_of m.flat
     → lines_from numbers count (Derived (node_of f) r (More d ds))
     ≡ own_lines (names_at f numbers) (suc count) (node_of f) r ++ lines_from (next_numbers f r numbers (suc count)) (bound_count r count) d
@@ -77,7 +71,7 @@ lines_on f r m d ds numbers count going leads below =
     let names : Names = names_at f numbers in
     let inner : Names = with_new_name n r (suc count) names in
     let rs : List Renaming = renamings (renamed_premises n r) in
-    ap (body_text [] 1) (opened n r (More d ds) false 0 1 names count [] (going_rule r going))
+    ap (body_text [] 1) (opened n r (More d ds) false 0 1 names count [] (going_is r going))
     ∙ rule_text n r names (suc count) (body false 0 1 (head_names inner rs) (bound_count r count) [] d)
     (bodies (1 + called_count d) inner (tail_renamings rs) (bound_count r count) [] ds) going
     ∙ ap (λ ns. own_lines names (suc count) n r ++ body_text [] 1 (body false 0 1 ns (bound_count r count) [] d)) (names_next f r m d numbers (suc count) leads below)

@@ -9,3 +9,6 @@ mod names;
 mod program;
 
 pub use program::program_text;
+
+#[cfg(test)]
+mod tests;
