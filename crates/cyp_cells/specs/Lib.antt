@@ -3,3 +3,4 @@ pub mod CellMoves
 pub mod CellNormal
 pub mod Collected
 pub mod FlatAlts
+pub mod Left

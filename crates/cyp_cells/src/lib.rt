@@ -6,6 +6,7 @@
 mod alt;
 mod facts;
 mod flat;
+mod left;
 mod moves;
 mod node;
 mod normal;
@@ -20,6 +21,7 @@ mod tidy;
 
 pub use alt::FlatAlt;
 pub use flat::{Flat, FlatCell, FlatEquation, FlatRenaming, FlatTerm};
+pub use left::left_by;
 pub use moves::flat_moves;
 pub use node::CellsNode;
 pub use normal::normal_flat;

@@ -1,0 +1,14 @@
+mod Moved
+mod ChainOf
+mod NamesKept
+mod Steps
+mod Looking
+mod Numbering
+mod Listing
+mod ShortNumbers
+mod Appending
+mod SolvedTrees
+mod Loop
+mod Whole
+mod Rows
+mod Example

@@ -1,0 +1,29 @@
+ghost use Rattle.std.specs.Prelude.{◌≡◌, ◌++◌, OnOk, decimal};
+ghost use Rattle.cyp_prog.specs.ProgramText.{var_text};
+
+use cyp_term::NoMemory;
+use itoa::Buffer;
+
+/// Writes these bytes at the end.
+pub(crate) fn add(text: &mut Vec<u8>, bytes: &[u8]) -> Result<(), NoMemory>
+    ensures { OnOk result (text.new.items ≡ text.old.items ++ bytes.now) }
+{
+    text.extend_from_slice(bytes)?;
+    Ok(())
+}
+
+/// Writes a number in decimal.
+pub(crate) fn add_number(text: &mut Vec<u8>, number: u64) -> Result<(), NoMemory>
+    ensures { OnOk result (text.new.items ≡ text.old.items ++ decimal number) }
+{
+    let mut buffer = Buffer::new();
+    add(text, buffer.format(number).as_bytes())
+}
+
+/// Writes a variable of the program.
+pub(crate) fn add_variable(text: &mut Vec<u8>, number: u64) -> Result<(), NoMemory>
+    ensures { OnOk result (text.new.items ≡ text.old.items ++ var_text number) }
+{
+    add(text, b"v")?;
+    add_number(text, number)
+}
