@@ -1,5 +1,5 @@
 -- The derivation of a constant store, for a test.
-use Rattle.std.proofs.Common.{◌≡◌, ◌+◌, ◌<◌, ℕ, List, [], ◌∷◌, map, refl, sym, ap, ◌∙◌, subst, lit<}
+use Rattle.std.proofs.Common.{◌≡◌, List, [], ◌∷◌, map, refl, sym, ap, ◌∙◌, subst, lit<}
 use Rattle.std.specs.List.{Contains}
 use Rattle.cyp_kernel.specs.Companions.{Proof}
 use Rattle.cyp_moves.specs.Moves.{moves}
@@ -16,7 +16,6 @@ use Rattle.cyp_cells.specs.CellMoves.{IsCells, flat_moves}
 use Rattle.cyp_cell_moves.specs.CellAlts.{alt_of}
 use Rattle.cyp_tree.specs.Derivations.{Derived, More, NoMore, plain_derivation, plain_derivations}
 use Rattle.cyp_space.specs.declared.solved.Solved.{Solved}
-use Rattle.cyp_tree.specs.Follows.{Follows}
 use Rattle.cyp_cell_print.specs.Found.{IsFound}
 use Rattle.cyp_cell_print.proofs.Moved.{built}
 
