@@ -1,5 +1,5 @@
 -- What the normal form asks of a text's goal: addresses are variables, numbers are small, and existentials are apart.
-use Rattle.std.proofs.Common.{◌≡◌, ◌∙◌, ◌≤◌, ℕ, List, [], ◌∷◌, ◌++◌, Bool, true, drop, length, leb-true, map, not, refl, sym, ap, subst, take, arith, append-nil}
+use Rattle.std.proofs.Common.{◌≡◌, ◌∙◌, ◌≤◌, ℕ, List, [], ◌∷◌, ◌++◌, true, drop, length, leb-true, map, not, refl, sym, ap, take, arith, append-nil}
 use Rattle.std.specs.List.{list_all}
 use Rattle.std.proofs.lemmas.Bool.{and_parts, le-leb}
 use Rattle.std.proofs.lemmas.Cmp.{nat_list_eq_equiv}
@@ -9,9 +9,8 @@ use Rattle.cyp_cell_text.specs.declared.text.CellText.{CellText}
 use Rattle.cyp_cell_text.specs.declared.text.ContentText.{ContentText}
 use Rattle.cyp_cell_text.specs.declared.text.ContentText.TheVariants as contents
 use Rattle.cyp_cell_text.specs.declared.text.FlatText.{FlatText}
-use Rattle.cyp_cells.specs.CellMoves.{is_named, is_small, is_small_cell}
+use Rattle.cyp_cells.specs.CellMoves.{is_small, is_small_cell}
 use Rattle.cyp_cells.specs.Cells.{among}
-use Rattle.cyp_cells.specs.declared.flat.FlatCell.{FlatCell}
 use Rattle.cyp_cell_moves.proofs.CellLists.{has_named}
 use Rattle.cyp_cell_moves.proofs.Counting.{Decides-among}
 use Rattle.cyp_cell_moves.proofs.MapLaws.{list_all-map, list_all-map_when}

@@ -1,5 +1,5 @@
 -- The numbers of a text's goal: places of its names.
-use Rattle.std.proofs.Common.{◌≡◌, ◌∙◌, ℕ, ◌==◌, List, [], ◌∷◌, ◌++◌, ◌&&◌, Bool, true, false, cond, length, map, refl, sym, ap, ap₂, append-nil}
+use Rattle.std.proofs.Common.{◌≡◌, ◌∙◌, ℕ, ◌==◌, List, [], ◌∷◌, ◌++◌, Bool, true, length, map, refl, sym, ap, ap₂, append-nil}
 use Rattle.std.specs.List.{list_all, list_any}
 use Rattle.std.proofs.lemmas.Bool.{and_parts}
 use Rattle.std.proofs.lemmas.List.{length-map, map-append, map_push}
@@ -13,7 +13,7 @@ use Rattle.cyp_cell_moves.proofs.MapLaws.{at_cond, flat_map-map, list_any-map}
 use Rattle.cyp_term.proofs.Lists.{each_from}
 use Rattle.cyp_term.proofs.Repeats.{without_repeats_in}
 use Rattle.cyp_term.specs.Terms.{with_all_new, with_new, without_repeats}
-use Rattle.cyp_cell_goal.specs.FlatGoal.{all_names, content_names, heap_names, name_place, param_names, same_name, universal_names}
+use Rattle.cyp_cell_goal.specs.FlatGoal.{all_names, content_names, heap_names, name_place, param_names, same_name}
 use Rattle.cyp_cell_goal.specs.FlatOf.{flat_cell, flat_content, flat_of}
 use Rattle.cyp_cell_goal.proofs.Growing.{with_all_new_append}
 use Rattle.cyp_cell_goal.proofs.SameNames.{eqb-name_place, same_name-Decides}

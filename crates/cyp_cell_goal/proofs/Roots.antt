@@ -1,5 +1,5 @@
 -- The root of a text by the small value of its goal.
-use Rattle.std.proofs.Common.{◌≡◌, ◌∙◌, [], ◌&&◌, Bool, true, false, Option, None, Some, cond, is_some, option_map, refl, sym, ap}
+use Rattle.std.proofs.Common.{◌≡◌, ◌∙◌, ◌&&◌, Bool, true, false, Option, None, Some, cond, is_some, option_map, refl, sym, ap}
 use Rattle.std.proofs.lemmas.Bool.{and_parts}
 use Rattle.std.proofs.lemmas.Option.{cond_some, none-some}
 use Rattle.cyp_cell_text.specs.declared.text.FlatText.{FlatText}

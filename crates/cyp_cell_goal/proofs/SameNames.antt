@@ -1,5 +1,5 @@
 -- Names are equal where they are the same, and the place of a name tells which it is.
-use Rattle.std.proofs.Common.{◌≡◌, ◌∙◌, ◌≤◌, length, ℕ, suc, ◌==◌, ◌||◌, List, [], ◌∷◌, Bool, true, false, cond, Decides, refl, sym, ap, arith, eq-eqb, eqb-true}
+use Rattle.std.proofs.Common.{◌≡◌, ◌∙◌, ◌≤◌, length, ℕ, suc, ◌==◌, List, [], ◌∷◌, Bool, true, false, cond, Decides, refl, sym, ap, arith, eq-eqb, eqb-true}
 use Rattle.std.specs.List.{list_any}
 use Rattle.std.proofs.lemmas.Bool.{false≢true}
 use Rattle.std.proofs.lemmas.Bool.Decides.{Decides-eqb, Decides-like, same_from_decides}

@@ -1,5 +1,5 @@
 -- The limits of a text's goal as it is written, by what the text has.
-use Rattle.std.proofs.Common.{◌≡◌, ◌∙◌, ℕ, List, [], ◌&&◌, ◌==◌, Bool, true, false, filter, length, map, nat_le, refl, sym, ap}
+use Rattle.std.proofs.Common.{◌≡◌, ◌∙◌, ℕ, [], ◌&&◌, ◌==◌, Bool, true, false, filter, length, map, nat_le, refl, sym, ap}
 use Rattle.std.proofs.lemmas.List.{length-map}
 use Rattle.cyp_cell_text.specs.declared.text.FlatText.{FlatText}
 use Rattle.cyp_cell_text.specs.declared.text.ParamText.{ParamText}
@@ -41,23 +41,12 @@ abbrev by_counts : ℕ → ℕ → ℕ → ℕ → ℕ → ℕ → Bool
 by_counts pre post program ints sets elements =
     nat_le pre 16 && nat_le post 16 && nat_le 0 40 && nat_le 0 40 && nat_le program 12 && nat_le ints 64 && nat_le sets 32 && nat_le elements 32
 
-trues : (a b c d : Bool) → (((((a && b) && true && true) && c) && d) && true && true) ≡ ((c && a && b) && d)
+trues : (a b c d : Bool) → (((((a && b) && true && true) && c) && d) && true && true) ≡ (((a && b) && c) && d)
 trues true true true true = refl
 trues true true true false = refl
-trues true true false true = refl
-trues true true false false = refl
-trues true false true true = refl
-trues true false true false = refl
-trues true false false true = refl
-trues true false false false = refl
-trues false true true true = refl
-trues false true true false = refl
-trues false true false true = refl
-trues false true false false = refl
-trues false false true true = refl
-trues false false true false = refl
-trues false false false true = refl
-trues false false false false = refl
+trues true true false d = refl
+trues true false c d = refl
+trues false b c d = refl
 
 params_count : (t : FlatText) → length (map (var_named (all_names t)) (param_names t)) ≡ length t.params
 params_count t = length-map (param_names t) (var_named (all_names t)) ∙ length-map t.params (λ (p : ParamText). p.name)

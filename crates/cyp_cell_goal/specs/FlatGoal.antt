@@ -1,5 +1,5 @@
 -- The goal that a flat text says, and the limits of a flat text.
-use Rattle.std.specs.Prelude.{◌≡◌, ◌&&◌, ◌∷◌, ◌++◌, ◌==◌, [], Bool, IsTrue, List, None, Option, Some, cond, drop, false, flat_map, is_some, length, map, nat_eq, nat_le, option_map, pos, suc, true, ℕ}
+use Rattle.std.specs.Prelude.{◌&&◌, ◌∷◌, ◌++◌, [], Bool, IsTrue, List, None, Option, Some, cond, drop, flat_map, is_some, length, map, nat_eq, nat_le, pos, suc, true, ℕ}
 use Rattle.std.specs.List.{list_all}
 use Rattle.std.specs.Cmp.Lexicographic.{pointwise}
 use Rattle.cyp_term.specs.declared.term.Term.{Term}

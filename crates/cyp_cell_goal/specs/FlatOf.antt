@@ -40,9 +40,9 @@ flat_of t =
 abbrev pub are_small : List CellText → Bool
 are_small cs = list_all (λ (c : CellText). is_small_content c.content) cs
 
--- few parameters and cells
+-- few cells and parameters
 abbrev pub is_short : FlatText → Bool
-is_short t = nat_le (length t.params) 12 && nat_le (length t.pre) 16 && nat_le (length t.post) 16
+is_short t = nat_le (length t.pre) 16 && nat_le (length t.post) 16 && nat_le (length t.params) 12
 
 -- numbers are small, and the goal as it is written is within the limits
 abbrev pub is_written_within : FlatText → Bool

@@ -4,11 +4,11 @@ ghost use Rattle.cyp_cell_goal.specs.FlatOf.{are_small, is_short};
 
 use cyp_cell_text::{CellText, ContentText, FlatText};
 
-/// Few parameters and cells, as lists of a text may be long.
+/// Few cells and parameters, as lists of a text may be long.
 pub(crate) fn is_short(text: &FlatText) -> bool
     ensures { result ≡ is_short text.now }
 {
-    text.params.len() <= 12 && text.pre.len() <= 16 && text.post.len() <= 16
+    text.pre.len() <= 16 && text.post.len() <= 16 && text.params.len() <= 12
 }
 
 fn is_small(content: &ContentText) -> bool

@@ -2,7 +2,7 @@
 use Rattle.std.proofs.Common.{◌≡◌, refl, ap, List, [], ◌∷◌, ◌++◌, Option, Some, None}
 use Rattle.std.specs.Option.{option_map}
 use Rattle.cyp_space.specs.declared.solved.Solved.{Solved}
-use Rattle.cyp_tree.specs.Derivations.{Derivation, Derived, Derivations, NoMore, More, one_more, plain_derivation, plain_derivations}
+use Rattle.cyp_tree.specs.Derivations.{Derived, Derivations, NoMore, More, one_more, plain_derivation, plain_derivations}
 
 abbrev pub derivations_append : {R N : Type 0} → Derivations R N → Derivations R N → Derivations R N
 derivations_append NoMore es = es

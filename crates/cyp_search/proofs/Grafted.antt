@@ -1,5 +1,5 @@
 -- A graft changes nothing where no leaf has its number.
-use Rattle.std.proofs.Common.{◌≡◌, refl, ap, ℕ, zero, suc, ◌+◌, ◌==◌, Bool, true, false, cond, arith}
+use Rattle.std.proofs.Common.{◌≡◌, refl, ap, ℕ, ◌==◌, Bool, true, false, cond, arith}
 use Rattle.cyp_tree.specs.Trees.{Tree, Leaf, Grown, Alts, NoAlt, AltThen, Parts, NoPart, PartThen}
 use Rattle.cyp_tree.specs.Growing.{graft, graft_alts, graft_parts}
 use Rattle.cyp_tree.specs.Numbers.{leaves, alts_leaves, parts_leaves}

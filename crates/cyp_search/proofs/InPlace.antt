@@ -1,5 +1,5 @@
 -- One tree of a list is changed in place.
-use Rattle.std.proofs.Common.{◌≡◌, refl, sym, ap, ◌∙◌, ℕ, zero, suc, ◌+◌, ◌≤◌, ◌<◌, List, [], ◌∷◌, length, get_or, set, drop, map, Some, Vec, arith}
+use Rattle.std.proofs.Common.{◌≡◌, sym, ap, ◌∙◌, ℕ, zero, suc, ◌+◌, ◌≤◌, ◌<◌, List, [], ◌∷◌, length, get_or, set, drop, Some, Vec, arith}
 use Rattle.std.specs.declared.alloc.Global.{Global}
 use Rattle.std.specs.Vec.{with_items}
 use Rattle.std.proofs.lemmas.List.{with_items_is, drop-set-lt}
@@ -8,10 +8,10 @@ use Rattle.cyp_search.specs.declared.branch.Branch.{Branch}
 use Rattle.cyp_search.specs.declared.branch.Way.{Way}
 use Rattle.cyp_search.specs.declared.branch.Branch.TheViews.{out-Branch, roll-Branch, out-Way, roll-Way}
 use Rattle.cyp_search.specs.declared.branch.Branch.TheFolds.{fold-roll-Branch, fold-roll-Way}
-use Rattle.cyp_tree.specs.Trees.{Tree, Leaf, Grown, Alts, Parts, PartThen, AltThen}
+use Rattle.cyp_tree.specs.Trees.{Tree, Grown, Alts, Parts, PartThen, AltThen}
 use Rattle.cyp_tree.specs.Growing.{graft, graft_alts, graft_parts}
 use Rattle.cyp_tree.specs.Numbers.{leaves, alts_leaves, parts_leaves}
-use Rattle.cyp_search.specs.Branches.{Weighed, PlainWay, tree_step, way_step, tree_of, trees_of, way_of, ways_of, weighed_node, leaf_or_grown, alts_of, parts_of}
+use Rattle.cyp_search.specs.Branches.{Weighed, PlainWay, tree_step, way_step, tree_of, trees_of, way_of, ways_of, alts_of, parts_of}
 use Rattle.cyp_search.proofs.Grafted.{graft-absent, graft_alts-absent, graft_parts-absent}
 use Rattle.cyp_search.proofs.Items.{drop-item}
 use Rattle.cyp_search.proofs.Views.{root_node, tree_grown, way_rule, way_cost}

@@ -1,15 +1,15 @@
 -- What a look through the parts of an alternative keeps.
-use Rattle.std.proofs.Common.{◌≡◌, refl, sym, ap, ◌∙◌, ℕ, ◌+◌, ◌≤◌, List, [], ◌∷◌, ◌++◌, Option, Some, None, arith}
+use Rattle.std.proofs.Common.{◌≡◌, refl, sym, ap, ◌∙◌, ℕ, List, [], ◌∷◌, Option, Some, None, arith}
 use Rattle.std.specs.Option.{option_map}
 use Rattle.cyp_tree.specs.declared.status.Status.{Status}
 use Rattle.cyp_tree.specs.declared.status.Status.TheVariants.{Open, Solved, Failed}
-use Rattle.cyp_tree.specs.Trees.{Tree, Leaf, Grown, Parts, PartThen}
-use Rattle.cyp_tree.specs.Statuses.{both, status, alts_status, parts_status}
+use Rattle.cyp_tree.specs.Trees.{Tree, Leaf, Grown}
+use Rattle.cyp_tree.specs.Statuses.{both, status, parts_status}
 use Rattle.cyp_tree.specs.Live.{where_open, live_leaves, live_alts, live_parts, first_of, least_waiting}
 use Rattle.cyp_tree.specs.Sizes.{parts_size}
 use Rattle.cyp_search.specs.declared.branch.Branch.{Branch}
 use Rattle.cyp_search.specs.declared.outlook.LiveLeaf.{LiveLeaf}
-use Rattle.cyp_search.specs.Branches.{Weighed, tree_of, trees_of, own_weight}
+use Rattle.cyp_search.specs.Branches.{tree_of, trees_of, own_weight}
 use Rattle.cyp_search.specs.Outlooks.{waiting_of, status_so_far, CostsFit}
 use Rattle.cyp_search.proofs.Combining.{first_of-assoc, least_waiting-append}
 
@@ -43,10 +43,10 @@ module _ {R N : Type 0} (first : Option (LiveLeaf N)) (cost : ℕ) (b : Branch R
   looked_open leaf now e f h = record {
     same_status = sym (both_open first (parts_status (trees_of rest))) ∙ (rw e at was.same_status);
     same_first =
-      ap (λ o. first_of o (least_waiting (live_parts own_weight cost (trees_of rest)))) h
-      ∙ first_of-assoc (option_map waiting_of first) (Some (waiting_of leaf)) (least_waiting (live_parts own_weight cost (trees_of rest)))
-      ∙ ap (λ o. first_of (option_map waiting_of first) (first_of o (least_waiting (live_parts own_weight cost (trees_of rest))))) (sym f)
-      ∙ ap (first_of (option_map waiting_of first)) (sym (least_waiting-append (live_leaves own_weight cost (tree_of b)) (live_parts own_weight cost (trees_of rest))))
-      ∙ was.same_first;
+        ap (λ o. first_of o (least_waiting (live_parts own_weight cost (trees_of rest)))) h
+        ∙ first_of-assoc (option_map waiting_of first) (Some (waiting_of leaf)) (least_waiting (live_parts own_weight cost (trees_of rest)))
+        ∙ ap (λ o. first_of (option_map waiting_of first) (first_of o (least_waiting (live_parts own_weight cost (trees_of rest))))) (sym f)
+        ∙ ap (first_of (option_map waiting_of first)) (sym (least_waiting-append (live_leaves own_weight cost (tree_of b)) (live_parts own_weight cost (trees_of rest))))
+        ∙ was.same_first;
     fits = omega (arith, was.fits);
   }

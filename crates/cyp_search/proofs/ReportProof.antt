@@ -1,5 +1,5 @@
 -- The computed report, stage by stage, and that it is the one of the least stage that ends the search.
-use Rattle.std.proofs.Common.{◌≡◌, refl, sym, ap, ◌∙◌, ℕ, zero, suc, ◌+◌, ◌<◌, ◌≤◌, ◌==◌, Bool, true, false, ◌⊎◌, inl, inr, Option, Some, None, nat_le, arith, subst}
+use Rattle.std.proofs.Common.{◌≡◌, refl, sym, ◌∙◌, ℕ, zero, suc, ◌+◌, ◌<◌, ◌≤◌, ◌==◌, Bool, true, false, inl, inr, Option, Some, None, nat_le, arith, subst}
 use Rattle.std.proofs.lemmas.Bool.{cases_lt, le-leb, lt-leb, leb-true, leb-false, eq-eqb, ne_eqb}
 use Rattle.cyp_tree.specs.declared.status.Status.{Status}
 use Rattle.cyp_tree.specs.declared.status.Status.TheVariants.{Open, Solved, Failed}
@@ -9,7 +9,7 @@ use Rattle.cyp_tree.specs.Sizes.{size}
 use Rattle.cyp_tree.specs.Derivations.{Derivation, chosen_derivation}
 use Rattle.cyp_tree.specs.Growing.{expand_next}
 use Rattle.cyp_search.specs.Stages.{stage}
-use Rattle.cyp_search.specs.Reports.{PlainVerdict, PlainReport, Spent, NoneFound, report, report_of, report_at, report_from, verdict_at, ending_by, ending, IsReport}
+use Rattle.cyp_search.specs.Reports.{report, report_at, report_from, verdict_at, ending_by, ending, IsReport}
 
 module _ {R N : Type 0} (space : Moving R N) (limit : ℕ) where
   -- from a tree with this status on, whose next one fits or not

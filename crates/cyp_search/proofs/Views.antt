@@ -1,5 +1,5 @@
 -- The kept tree, one level at a time.
-use Rattle.std.proofs.Common.{◌≡◌, refl, sym, ap, ◌∙◌, ℕ, List, Option, Some, None, Vec}
+use Rattle.std.proofs.Common.{◌≡◌, sym, ap, ◌∙◌, ℕ, List, Some, None, Vec}
 use Rattle.std.specs.declared.alloc.Global.{Global}
 use Rattle.cyp_search.specs.declared.branch.Branch.{Branch}
 use Rattle.cyp_search.specs.declared.branch.Way.{Way}

@@ -1,14 +1,14 @@
 -- What a look through the alternatives of a node keeps.
-use Rattle.std.proofs.Common.{◌≡◌, refl, sym, ap, ◌∙◌, ℕ, ◌+◌, ◌≤◌, List, [], ◌∷◌, ◌++◌, Option, Some, None, arith}
+use Rattle.std.proofs.Common.{◌≡◌, refl, sym, ap, ◌∙◌, ℕ, ◌+◌, List, ◌∷◌, Option, Some, None, arith}
 use Rattle.std.specs.Option.{option_map}
 use Rattle.cyp_tree.specs.declared.status.Status.{Status}
 use Rattle.cyp_tree.specs.declared.status.Status.TheVariants.{Open, Solved, Failed}
 use Rattle.cyp_tree.specs.Statuses.{either, alts_status, parts_status}
-use Rattle.cyp_tree.specs.Live.{unless_failed, live_alts, live_parts, first_of, least_waiting}
+use Rattle.cyp_tree.specs.Live.{live_alts, live_parts, first_of, least_waiting}
 use Rattle.cyp_tree.specs.Sizes.{alts_size}
 use Rattle.cyp_search.specs.declared.branch.Way.{Way}
 use Rattle.cyp_search.specs.declared.outlook.LiveLeaf.{LiveLeaf}
-use Rattle.cyp_search.specs.Branches.{Weighed, way_of, ways_of, own_weight}
+use Rattle.cyp_search.specs.Branches.{way_of, ways_of, own_weight}
 use Rattle.cyp_search.specs.Outlooks.{waiting_of, status_so_far, CostsFit}
 use Rattle.cyp_search.proofs.Combining.{first_of-assoc, least_waiting-append}
 
@@ -46,10 +46,10 @@ module _ {R N : Type 0} (first : Option (LiveLeaf N)) (cost : ℕ) (w : Way R N)
   looked_open leaf now e f h = record {
     same_status = sym (either_open first (alts_status (ways_of rest))) ∙ (rw e at was.same_status);
     same_first =
-      ap (λ o. first_of o (least_waiting (live_alts own_weight cost (ways_of rest)))) h
-      ∙ first_of-assoc (option_map waiting_of first) (Some (waiting_of leaf)) (least_waiting (live_alts own_weight cost (ways_of rest)))
-      ∙ ap (λ o. first_of (option_map waiting_of first) (first_of o (least_waiting (live_alts own_weight cost (ways_of rest))))) (sym f)
-      ∙ ap (first_of (option_map waiting_of first)) (sym (least_waiting-append (live_parts own_weight (cost + (way_of w).cost) (way_of w).parts) (live_alts own_weight cost (ways_of rest))))
-      ∙ (rw e at was.same_first);
+        ap (λ o. first_of o (least_waiting (live_alts own_weight cost (ways_of rest)))) h
+        ∙ first_of-assoc (option_map waiting_of first) (Some (waiting_of leaf)) (least_waiting (live_alts own_weight cost (ways_of rest)))
+        ∙ ap (λ o. first_of (option_map waiting_of first) (first_of o (least_waiting (live_alts own_weight cost (ways_of rest))))) (sym f)
+        ∙ ap (first_of (option_map waiting_of first)) (sym (least_waiting-append (live_parts own_weight (cost + (way_of w).cost) (way_of w).parts) (live_alts own_weight cost (ways_of rest))))
+        ∙ (rw e at was.same_first);
     fits = omega (arith, was.fits);
   }

@@ -1,14 +1,12 @@
 -- The tree that the search keeps, as a tree whose nodes have their weights beside them.
-use Rattle.std.specs.Prelude.{◌≡◌, ℕ, List, [], ◌∷◌, map, Option, Some, None, Vec}
+use Rattle.std.specs.Prelude.{ℕ, List, [], ◌∷◌, map, Option, Some, None, Vec}
 use Rattle.std.specs.declared.alloc.Global.{Global}
 use Rattle.cyp_search.specs.declared.branch.Branch.{Branch}
 use Rattle.cyp_search.specs.declared.branch.Way.{Way}
 use Rattle.cyp_search.specs.declared.branch.Branch.TheOpen.{Branch-F, Way-F}
 use Rattle.cyp_search.specs.declared.branch.Branch.TheFolds.{fold-Branch, fold-Way}
 use Rattle.cyp_tree.specs.Trees.{Tree, Leaf, Grown, Alts, NoAlt, AltThen, Parts, NoPart, PartThen}
-use Rattle.cyp_tree.specs.Sizes.{size}
-use Rattle.cyp_tree.specs.Numbers.{IsNumbered}
-use Rattle.cyp_search.specs.Mapped.{map_tree, map_alts}
+use Rattle.cyp_search.specs.Mapped.{map_tree}
 
 -- a node with its weight
 pub record Weighed (N : Type 0) : Type 0 where

@@ -1,5 +1,4 @@
 -- A tree with other nodes in the places of its nodes.
-use Rattle.std.specs.Prelude.{ℕ}
 use Rattle.cyp_tree.specs.Trees.{Tree, Leaf, Grown, Alts, NoAlt, AltThen, Parts, NoPart, PartThen}
 
 abbrev mutual

@@ -1,6 +1,5 @@
 -- What a look through a tree tells: its status, and its next leaf where it is open.
 use Rattle.std.specs.Prelude.{◌≡◌, ℕ, ◌+◌, ◌*◌, ◌^◌, ◌≤◌, List, Option, Some, None}
-use Rattle.std.specs.Option.{option_map}
 use Rattle.cyp_search.specs.declared.outlook.LiveLeaf.{LiveLeaf}
 use Rattle.cyp_search.specs.declared.outlook.Outlook.{Outlook}
 use Rattle.cyp_search.specs.declared.outlook.Outlook.TheVariants.{Solved as was_solved, Failed as has_failed, Open as is_open}

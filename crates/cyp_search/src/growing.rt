@@ -31,7 +31,7 @@ fn leaves<S: Space>(
     requires { first + length premises < 2 ^ 32 }
     ensures { IfOk result (λ parts. trees_of parts.items ≡ map_parts (weigh (S.weight_of space.now)) (new_parts first premises)) }
 {
-    let mut parts = Vec::new(alloc);
+    let mut parts = Vec::with_capacity(alloc, premises.len())?;
     let mut number = first;
     for node in premises.into_vec() {
         let weight = space.weight(node.get());
@@ -51,9 +51,10 @@ pub fn new_ways<S: Space>(
     requires { first + sum_by (λ a. length a.premises) moves < 2 ^ 32 }
     ensures { IfOk result (λ ways. ways_of ways.items ≡ map_alts (weigh (S.weight_of space.now)) (new_alts first moves)) }
 {
-    let mut ways = Vec::new(alloc);
+    let alts = moves.into_alts();
+    let mut ways = Vec::with_capacity(alloc, alts.len())?;
     let mut number = first;
-    for alt in moves.into_alts().into_vec() {
+    for alt in alts.into_vec() {
         let (rule, cost, premises) = alt.into_parts();
         let count = premises.len() as u32;
         let parts = leaves(alloc, space, premises, number)?;

@@ -4,5 +4,4 @@ ghost use Rattle.cyp_search.specs.Reports.{ReportLaw};
 /// search.
 pub fn report_is_of_the_least_stage<R, N>()
     ensures { ReportLaw R N }
-{
-}
+{}

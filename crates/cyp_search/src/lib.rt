@@ -9,6 +9,8 @@ mod growing;
 mod laws;
 mod outlook;
 mod plain_search;
+#[cfg(test)]
+mod tests;
 
 pub use laws::report_is_of_the_least_stage;
 pub use plain_search::search;

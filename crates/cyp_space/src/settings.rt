@@ -27,13 +27,13 @@ impl Model for Settings {
 impl Settings {
     ghost use Rattle.cyp_space.specs.SettingsValue.{AreSettings};
 
-    pub fn new(budget: u32, unfold: u8, workers: u32, nodes: u32) -> Settings
-        requires { AreSettings budget «unfold» workers nodes }
-        ensures { result ≡ record { budget = budget; «unfold» = «unfold»; workers = workers; nodes = nodes } }
+    pub fn new(budget: u32, unfoldings: u8, workers: u32, nodes: u32) -> Settings
+        requires { AreSettings budget unfoldings workers nodes }
+        ensures { result ≡ record { budget = budget; «unfold» = unfoldings; workers = workers; nodes = nodes } }
     {
         Settings {
             budget,
-            unfold,
+            unfold: unfoldings,
             workers,
             nodes,
         }

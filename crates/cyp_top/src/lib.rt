@@ -4,6 +4,8 @@
 mod answer;
 mod run;
 mod status;
+#[cfg(test)]
+mod tests;
 
 pub use run::{output_is_one, run_still};
 pub use status::Status;

@@ -1,5 +1,5 @@
 -- Derivations, and the one that a solved tree has.
-use Rattle.std.specs.Prelude.{ℕ, List, [], ◌∷◌, map, Option, Some, None}
+use Rattle.std.specs.Prelude.{List, [], ◌∷◌, map, Option, Some, None}
 use Rattle.cyp_space.specs.declared.solved.Solved.{Solved}
 use Rattle.cyp_space.specs.declared.solved.Solved.TheOpen.{Solved-F}
 use Rattle.cyp_space.specs.declared.solved.Solved.TheFolds.{fold-Solved}

@@ -1,6 +1,6 @@
-use Rattle.std.proofs.Common.{◌≡◌, ap, ◌∙◌, ◌+◌, ◌∷◌, drop, max, ◌≤◌, arith}
+use Rattle.std.proofs.Common.{◌≡◌, ap, ◌+◌, ◌∷◌, drop, max, ◌≤◌, arith}
 use Rattle.cyp_tree.specs.Sizes.{size, parts_size, alts_size, parts_depth, alts_depth}
-use Rattle.cyp_search.specs.Branches.{ways_of, way_of}
+use Rattle.cyp_search.specs.Branches.{ways_of}
 use Rattle.cyp_search.proofs.Items.{drop-item}
 use Rattle.cyp_search.proofs.Views.{tree_grown, way_parts-at}
 use Rattle.cyp_search.proofs.depths.+depth.Goals as goal

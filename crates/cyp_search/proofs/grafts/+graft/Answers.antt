@@ -1,8 +1,8 @@
-use Rattle.std.proofs.Common.{◌≡◌, refl, sym, ap, ◌∙◌, ◌+◌, ◌≤◌, ◌<◌, length, get_or, arith}
+use Rattle.std.proofs.Common.{refl, sym, ap, ◌∙◌, ◌≤◌, get_or, arith}
 use Rattle.std.proofs.lemmas.Result.{on_err_weaker}
 use Rattle.cyp_tree.specs.Growing.{graft_alts, graft_parts}
 use Rattle.cyp_tree.specs.Numbers.{alts_leaves, parts_leaves}
-use Rattle.cyp_search.specs.Branches.{tree_of, trees_of, way_of, ways_of}
+use Rattle.cyp_search.specs.Branches.{trees_of, ways_of}
 use Rattle.cyp_search.proofs.Items.{unvisited-set}
 use Rattle.cyp_search.proofs.InPlace.{same_way, tree_with, way_with, ways_leaves-le_all, trees-set_graft, ways-set_graft, trees-set_same, ways-set_same, trees-passed, ways-passed}
 use Rattle.cyp_search.proofs.Views.{way_parts-at}
@@ -32,7 +32,7 @@ graft_parts-loop-i-preserved g t c =
       same = trees-set_same c.args.number c.loop-i.parts c.loop-i.i x c.graft.new.tree is c.in-Err.ensures.same ∙ c.loop-i.invariant.same;
       kept = c.in-Err.ensures.back ∙ c.loop-i.invariant.kept;
       absent =
-        trees-passed c.args.number c.loop-i.parts c.loop-i.i x c.graft.new.tree (omega arith) is c.in-Err.ensures.same c.in-Err.ensures.absent c.loop-i.invariant.absent;
+          trees-passed c.args.number c.loop-i.parts c.loop-i.i x c.graft.new.tree (omega arith) is c.in-Err.ensures.same c.in-Err.ensures.absent c.loop-i.invariant.absent;
     }
 
 pub graft_ways-returns-in-Ok-clause-ok : goal.graft_ways-returns-in-Ok-clause-ok

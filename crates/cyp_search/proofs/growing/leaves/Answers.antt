@@ -1,10 +1,10 @@
-use Rattle.std.proofs.Common.{◌≡◌, refl, sym, ap, ◌∙◌, ◌+◌, ◌∷◌, length, add-one, arith}
+use Rattle.std.proofs.Common.{sym, ap, ◌∙◌, ◌+◌, length, add-one, arith}
 use Rattle.std.proofs.lemmas.List.{nil_from_length}
 use Rattle.std.specs.Vec.Iter.{into_iter_items}
 use Rattle.cyp_tree.specs.Trees.{Leaf, PartThen}
 use Rattle.cyp_tree.specs.Growing.{new_parts}
 use Rattle.cyp_search.specs.Mapped.{map_parts}
-use Rattle.cyp_search.specs.Branches.{tree_of, trees_of, weigh}
+use Rattle.cyp_search.specs.Branches.{trees_of, weigh}
 use Rattle.cyp_search.proofs.Appended.{parts_append, parts_append-none, trees_append-push}
 use Rattle.cyp_search.proofs.growing.leaves.Goals as goal
 
@@ -27,8 +27,8 @@ loop-node-preserved g c =
       finite = tt;
       fits = omega (arith, c.loop-node.invariant.fits, ap length items);
       made =
-        ap (λ xs. parts_append (trees_of xs) (map_parts (weigh weight) (new_parts (c.loop-node.number + 1) rest))) c.in_ok-push.ensures.items
-        ∙ trees_append-push c.loop-node.parts.items c.leaf.result (map_parts (weigh weight) (new_parts (c.loop-node.number + 1) rest))
-        ∙ (λ i. parts_append (trees_of c.loop-node.parts.items) (PartThen (leaf i) (map_parts (weigh weight) (new_parts (add-one c.loop-node.number i) rest))))
-        ∙ was;
+          ap (λ xs. parts_append (trees_of xs) (map_parts (weigh weight) (new_parts (c.loop-node.number + 1) rest))) c.in_ok-push.ensures.items
+          ∙ trees_append-push c.loop-node.parts.items c.leaf.result (map_parts (weigh weight) (new_parts (c.loop-node.number + 1) rest))
+          ∙ (λ i. parts_append (trees_of c.loop-node.parts.items) (PartThen (leaf i) (map_parts (weigh weight) (new_parts (add-one c.loop-node.number i) rest))))
+          ∙ was;
     }

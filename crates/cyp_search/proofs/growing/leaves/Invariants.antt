@@ -12,5 +12,5 @@ invariant-loop-node g l = record {
   finite : (goal.iterator-loop-node g).is_finite l.node-iterator;
   fits : l.number + length (into_iter_items l.node-iterator) < 2 ^ 32;
   made : parts_append (trees_of l.parts.items) (map_parts (weigh (g.S.Space.weight_of l.space)) (new_parts l.number (into_iter_items l.node-iterator)))
-    ≡ map_parts (weigh (g.S.Space.weight_of l.space)) (new_parts l.fn.first l.fn.premises);
+      ≡ map_parts (weigh (g.S.Space.weight_of l.space)) (new_parts l.fn.first l.fn.premises);
 }

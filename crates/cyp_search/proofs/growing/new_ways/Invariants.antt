@@ -13,5 +13,5 @@ invariant-loop-alt g l = record {
   finite : (goal.iterator-loop-alt g).is_finite l.alt-iterator;
   fits : l.number + sum_by (λ a. length a.premises) (into_iter_items l.alt-iterator) < 2 ^ 32;
   made : alts_append (ways_of l.ways.items) (map_alts (weigh (g.S.Space.weight_of l.space)) (new_alts l.number (into_iter_items l.alt-iterator)))
-    ≡ map_alts (weigh (g.S.Space.weight_of l.space)) (new_alts l.fn.first l.fn.moves);
+      ≡ map_alts (weigh (g.S.Space.weight_of l.space)) (new_alts l.fn.first l.fn.moves);
 }

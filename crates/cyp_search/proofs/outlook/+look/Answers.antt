@@ -1,4 +1,4 @@
-use Rattle.std.proofs.Common.{◌≡◌, ◌+◌, ◌∷◌, ◌∙◌, ap, drop}
+use Rattle.std.proofs.Common.{◌+◌, ◌∷◌, ◌∙◌, ap, drop}
 use Rattle.cyp_tree.specs.Statuses.{parts_status}
 use Rattle.cyp_tree.specs.Live.{live_parts, least_waiting}
 use Rattle.cyp_search.specs.Branches.{own_weight}
@@ -18,9 +18,9 @@ look_at_parts-loop-part-preserved g t c =
     let was : PartsLooked c.loop-part.first c.args.cost (c.part-item.result ∷ rest) c.args.parts.now = rw left at c.loop-part.invariant in
     elim c.match-look.branch [
       | look_at_parts-in-Solved w ↦
-        rw w.first-is (parts.looked_solved c.loop-part.first c.args.cost c.part-item.result rest c.args.parts.now was w.in-Solved.ensures)
-      | look_at_parts-in-Open w ↦ 
-        rw w.first-is (parts.looked_open c.loop-part.first c.args.cost c.part-item.result rest c.args.parts.now was w.in-Open.leaf w.first_of.result w.in-Open.ensures.0 w.in-Open.ensures.1 w.first_of.ensures)
+          rw w.first-is (parts.looked_solved c.loop-part.first c.args.cost c.part-item.result rest c.args.parts.now was w.in-Solved.ensures)
+      | look_at_parts-in-Open w ↦
+          rw w.first-is (parts.looked_open c.loop-part.first c.args.cost c.part-item.result rest c.args.parts.now was w.in-Open.leaf w.first_of.result w.in-Open.ensures.0 w.in-Open.ensures.1 w.first_of.ensures)
     ]
 
 pub look_at_ways-returns-in-Solved : goal.look_at_ways-returns-in-Solved
@@ -40,9 +40,9 @@ look_at_ways-loop-way-preserved g t c =
     let cost = way_cost-at c.way-item.result c.from.result c.from.ensures in
     elim c.match-look_at_parts.branch [
       | look_at_ways-in-Failed w ↦
-        rw w.first-is (ways.looked_failed c.loop-way.first c.args.cost c.way-item.result rest c.args.ways.now was (ap parts_status parts ∙ w.in-Failed.ensures))
+          rw w.first-is (ways.looked_failed c.loop-way.first c.args.cost c.way-item.result rest c.args.ways.now was (ap parts_status parts ∙ w.in-Failed.ensures))
       | look_at_ways-in-Open w ↦
-        rw w.first-is (ways.looked_open c.loop-way.first c.args.cost c.way-item.result rest c.args.ways.now was w.in-Open.leaf w.first_of.result
+          rw w.first-is (ways.looked_open c.loop-way.first c.args.cost c.way-item.result rest c.args.ways.now was w.in-Open.leaf w.first_of.result
           (ap parts_status parts ∙ w.in-Open.ensures.0)
           ((λ i. least_waiting (live_parts own_weight (c.args.cost + cost i) (parts i))) ∙ w.in-Open.ensures.1) w.first_of.ensures)
     ]

@@ -1,4 +1,4 @@
-use Rattle.std.proofs.Common.{◌≡◌, refl, sym, ap, ◌∙◌, ◌+◌, length, arith}
+use Rattle.std.proofs.Common.{refl, sym, ap, ◌∙◌, ◌+◌, length, arith}
 use Rattle.std.specs.List.{sum_by}
 use Rattle.cyp_space.specs.Alts.{AltOf}
 use Rattle.cyp_tree.specs.Trees.{Moving}
@@ -39,8 +39,9 @@ pub returns : goal.returns
 returns g c =
     let space : Moving g.row.S-Rule.Denot g.row.S-Node.Denot = record { moves = g.S.Space.moves_of c.args.space.now; weight = g.S.Space.weight_of c.args.space.now } in
     let count = ap (λ n. c.args.nodes + n) (c.count_of_premises.ensures.value ∙ ap (sum_by (λ (a : AltOf g.row.S-Rule.Denot g.row.S-Node.Denot). length a.premises)) c.in_ok-moves.ensures) in
-    let made = c.in_ok-ways.ensures ∙ ap (λ ms. map_alts (weigh space.weight) (new_alts c.args.nodes ms)) c.in_ok-moves.ensures in
-    (open_root space c.args.tree.now c.args.nodes c.requires.kept c.in-Open.leaf c.in-Open.ensures,
-     omega arith,
-     grown_plain space c.args.tree.now c.args.nodes c.requires.kept c.in-Open.leaf c.in-Open.ensures c.graft.new.tree c.in_ok-ways.ways.items (c.args.nodes + c.count_of_premises.result) made c.in-Ok.ensures.ok count,
-     grown_kept space c.args.tree.now c.args.nodes c.requires.kept c.in-Open.leaf c.in-Open.ensures c.graft.new.tree c.in_ok-ways.ways.items (c.args.nodes + c.count_of_premises.result) made c.in-Ok.ensures.ok count)
+    let made = c.in_ok-ways.ensures ∙ ap (λ ms. map_alts (weigh space.weight) (new_alts c.args.nodes ms)) c.in_ok-moves.ensures in (
+      open_root space c.args.tree.now c.args.nodes c.requires.kept c.in-Open.leaf c.in-Open.ensures,
+      omega arith,
+      grown_plain space c.args.tree.now c.args.nodes c.requires.kept c.in-Open.leaf c.in-Open.ensures c.graft.new.tree c.in_ok-ways.ways.items (c.args.nodes + c.count_of_premises.result) made c.in-Ok.ensures.ok count,
+      grown_kept space c.args.tree.now c.args.nodes c.requires.kept c.in-Open.leaf c.in-Open.ensures c.graft.new.tree c.in_ok-ways.ways.items (c.args.nodes + c.count_of_premises.result) made c.in-Ok.ensures.ok count,
+    )

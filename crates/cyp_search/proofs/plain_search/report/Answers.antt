@@ -1,4 +1,4 @@
-use Rattle.std.proofs.Common.{◌≡◌, refl, sym, ap, ◌∙◌, true, false, is_some, arith}
+use Rattle.std.proofs.Common.{◌≡◌, sym, ap, ◌∙◌, true, false, is_some, arith}
 use Rattle.cyp_tree.specs.Statuses.{status}
 use Rattle.cyp_tree.specs.Derivations.{chosen_derivation}
 use Rattle.cyp_tree.proofs.HasDerivation.{has_derivation}
@@ -27,13 +27,13 @@ returns g c =
     let s = status-map own_node (tree_of c.args.tree.now) in
     let derivation = chosen_derivation (plain_tree c.args.tree.now) in
     let verdict : plain_verdict c.match-look.verdict ≡ verdict_at (status (plain_tree c.args.tree.now)) derivation =
-      elim c.match-look.branch [
-        | in-Failed w ↦ ap plain_verdict w.verdict-is ∙ sym (ap (λ u. verdict_at u derivation) (s ∙ w.in-Failed.ensures))
-        | in-Open w ↦ ap plain_verdict w.verdict-is ∙ sym (ap (λ u. verdict_at u derivation) (s ∙ w.in-Open.ensures.0))
-        | in-Solved+in_ok-derivation-in-Solved+in-Some w ↦
+    elim c.match-look.branch [
+      | in-Failed w ↦ ap plain_verdict w.verdict-is ∙ sym (ap (λ u. verdict_at u derivation) (s ∙ w.in-Failed.ensures))
+      | in-Open w ↦ ap plain_verdict w.verdict-is ∙ sym (ap (λ u. verdict_at u derivation) (s ∙ w.in-Open.ensures.0))
+      | in-Solved+in_ok-derivation-in-Solved+in-Some w ↦
           let some = rw w.in-Some.is at w.in_ok-derivation-in-Solved.ensures in
           ap plain_verdict w.verdict-is ∙ ap found_or_spent some ∙ sym (ap (λ u. verdict_at u derivation) (s ∙ w.in-Solved.ensures))
-      ]
+    ]
     in
     let deep = c.depth_of.ensures.value ∙ sym (depth-map own_node (tree_of c.args.tree.now)) in
     λ i. record { verdict = verdict i; expansions = c.args.expansions; nodes = c.requires.counted i; depth = deep i }

@@ -1,4 +1,4 @@
-use Rattle.std.proofs.Common.{◌≡◌, refl, sym, ap, ◌∙◌, suc, ◌+◌, ◌-◌, ◌≤◌, add-one, arith}
+use Rattle.std.proofs.Common.{◌≡◌, sym, ap, ◌∙◌, suc, ◌+◌, ◌-◌, ◌≤◌, add-one, arith}
 use Rattle.std.proofs.lemmas.Result.{IfOk-weaker}
 use Rattle.cyp_tree.specs.Trees.{Leaf, Moving}
 use Rattle.cyp_tree.specs.Sizes.{size}
@@ -37,9 +37,9 @@ loop-expansions-preserved g c =
       kept = grown.3;
       few = few;
       same =
-        (λ i. report_from space c.args.settings.now.nodes left (add-one k i) (grown.2 i))
-        ∙ sym (report-grown space c.args.settings.now.nodes left k t grown.0 fits)
-        ∙ was;
+          (λ i. report_from space c.args.settings.now.nodes left (add-one k i) (grown.2 i))
+          ∙ sym (report-grown space c.args.settings.now.nodes left k t grown.0 fits)
+          ∙ was;
     }
 
 pub returns-in-None : goal.returns-in-None
@@ -51,6 +51,6 @@ returns-in-None g c =
     let t = plain_tree c.loop-expansions.tree in
     IfOk-weaker c.report.result _ _
     (λ r e.
-      e ∙ ap (report_at k) ended.0 ∙ sym (report-ended space c.args.settings.now.nodes (c.args.settings.now.budget - k) k t ended.1)
-      ∙ c.loop-expansions.invariant.same)
+    e ∙ ap (report_at k) ended.0 ∙ sym (report-ended space c.args.settings.now.nodes (c.args.settings.now.budget - k) k t ended.1)
+    ∙ c.loop-expansions.invariant.same)
     c.report.ensures

@@ -9,5 +9,5 @@ invariant-loop-expansions g l = record {
   kept : IsKept (g.S.Space.weight_of l.space) l.tree l.nodes;
   few : l.nodes ≤ l.settings.nodes;
   same : report_from record { moves = g.S.Space.moves_of l.space; weight = g.S.Space.weight_of l.space } l.settings.nodes (l.settings.budget - l.expansions) l.expansions (plain_tree l.tree)
-    ≡ report record { moves = g.S.Space.moves_of l.space; weight = g.S.Space.weight_of l.space } l.settings.budget l.settings.nodes l.fn.root;
+      ≡ report record { moves = g.S.Space.moves_of l.space; weight = g.S.Space.weight_of l.space } l.settings.budget l.settings.nodes l.fn.root;
 }
