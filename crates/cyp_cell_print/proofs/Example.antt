@@ -1,5 +1,5 @@
 -- The derivation of a constant store, for a test.
-use Rattle.std.proofs.Common.{◌≡◌, ◌+◌, ◌<◌, ℕ, List, [], ◌∷◌, map, refl, sym, subst, lit<}
+use Rattle.std.proofs.Common.{◌≡◌, List, [], ◌∷◌, map, refl, sym, ap, ◌∙◌, subst, lit<}
 use Rattle.std.specs.List.{Contains}
 use Rattle.cyp_kernel.specs.Companions.{Proof}
 use Rattle.cyp_moves.specs.Moves.{moves}
@@ -14,8 +14,8 @@ use Rattle.cyp_cells.specs.declared.flat.FlatTerm.TheVariants.{Named, Number}
 use Rattle.cyp_cells.specs.Cells.{node_of}
 use Rattle.cyp_cells.specs.CellMoves.{IsCells, flat_moves}
 use Rattle.cyp_cell_moves.specs.CellAlts.{alt_of}
-use Rattle.cyp_tree.specs.Derivations.{Derived, More, NoMore}
-use Rattle.cyp_tree.specs.Follows.{Follows}
+use Rattle.cyp_tree.specs.Derivations.{Derived, More, NoMore, plain_derivation, plain_derivations}
+use Rattle.cyp_space.specs.declared.solved.Solved.{Solved}
 use Rattle.cyp_cell_print.specs.Found.{IsFound}
 use Rattle.cyp_cell_print.proofs.Moved.{built}
 
@@ -65,3 +65,13 @@ example_found = (
     ),
   ),
 )
+
+-- the same, where it is built part by part
+pub example_by : (found framed last : Solved Rule Node) (f g h : Flat) (ps qs rs : List (Solved Rule Node)) → plain_derivation found ≡ Derived (node_of f) (ByWrite 0) (plain_derivations ps)
+    → plain_derivation framed ≡ Derived (node_of g) (ByFrame 0) (plain_derivations qs) → plain_derivation last ≡ Derived (node_of h) ByEmp (plain_derivations rs)
+    → ps ≡ framed ∷ [] → qs ≡ last ∷ [] → rs ≡ [] → f ≡ before → g ≡ stored → h ≡ done → IsFound (plain_derivation found)
+example_by found framed last f g h ps qs rs d e i pe qe re fe ge he =
+    let third = i ∙ (λ k. Derived (node_of (he k)) ByEmp (plain_derivations (re k))) in
+    let second = e ∙ (λ k. Derived (node_of (ge k)) (ByFrame 0) (plain_derivations (qe k))) ∙ ap (λ x. Derived (node_of stored) (ByFrame 0) (More x NoMore)) third in
+    let first : plain_derivation found ≡ example = d ∙ (λ k. Derived (node_of (fe k)) (ByWrite 0) (plain_derivations (pe k))) ∙ ap (λ x. Derived (node_of before) (ByWrite 0) (More x NoMore)) second in
+    subst IsFound (sym first) example_found

@@ -1,7 +1,7 @@
 -- The number of a variable, looked up from a place on.
 use Rattle.std.proofs.Common.{◌≡◌, ◌∙◌, ◌+◌, ◌<◌, ◌≤◌, ◌==◌, ℕ, List, [], ◌∷◌, cond, drop, get_or, length, refl, ap, add-one}
 use Rattle.std.proofs.Math.Seq.{drop-cons}
-use Rattle.std.proofs.lemmas.Bool.{eq-eqb, ne_eqb}
+use Rattle.std.proofs.lemmas.Bool.{ne_eqb}
 use Rattle.std.proofs.lemmas.List.{drop_all}
 use Rattle.cyp_cells.specs.Cells.{int_var}
 use Rattle.cyp_kernel.specs.Naming.{name_of}

@@ -1,5 +1,5 @@
 -- Numbers counted from one.
-use Rattle.std.proofs.Common.{◌≡◌, ◌∙◌, ◌+◌, ◌-◌, ◌<◌, ℕ, suc, [], ◌∷◌, ap, arith}
+use Rattle.std.proofs.Common.{◌≡◌, ◌∙◌, ◌+◌, ◌-◌, ◌<◌, ℕ, suc, ◌∷◌, ap, arith}
 use Rattle.cyp_pred.specs.Unfold.{count_from}
 
 -- the next number and those behind it
