@@ -10,7 +10,8 @@ use std::test::Fail;
 
 const SWAP: &[u8] = b"void swap(loc x, loc y) { x :-> a ** y :-> b } { x :-> b ** y :-> a }";
 
-const SWAPPED: &[u8] = b"void swap(v1, v2) {\n  let v3 = *v1;\n  let v4 = *v2;\n  *v1 = v4;\n  *v2 = v3;\n}\n";
+const SWAPPED: &[u8] =
+    b"void swap(v1, v2) {\n  let v3 = *v1;\n  let v4 = *v2;\n  *v1 = v4;\n  *v2 = v3;\n}\n";
 
 const REFUSED: &[u8] = b"refused: NotBuilt at 0\n";
 
@@ -84,12 +85,21 @@ fn synth(alloc: Global, text: &[u8]) -> Result<Ran, NoMemory> {
 fn flat_texts_are_answered(rt: HostRuntime) -> Result<(), Fail> {
     let alloc = rt.alloc();
     let constant = ending(alloc, Status::Program, b"void f(v1) {\n  *v1 = 5;\n}\n")?;
-    assert_eq!(rt; synth(alloc, b"void f(loc x) { x :-> a } { x :-> 5 }")?, constant);
-    assert_eq!(rt; synth(alloc, SWAP)?, ending(alloc, Status::Program, SWAPPED)?);
+    assert_eq!(rt;
+        synth(alloc, b"void f(loc x) { x :-> a } { x :-> 5 }")?,
+        constant
+    );
+    assert_eq!(rt;
+        synth(alloc, SWAP)?,
+        ending(alloc, Status::Program, SWAPPED)?
+    );
     let none = ending(alloc, Status::NoProgram, b"no program\n")?;
     assert_eq!(rt; synth(alloc, b"void f(loc x) { emp } { x :-> 1 }")?, none);
     let wrong = ending(alloc, Status::Program, b"void f(v1) {\n  error;\n}\n")?;
-    assert_eq!(rt; synth(alloc, b"void f(loc x) { x :-> 1 ** x :-> 2 } { emp }")?, wrong);
+    assert_eq!(rt;
+        synth(alloc, b"void f(loc x) { x :-> 1 ** x :-> 2 } { emp }")?,
+        wrong
+    );
     let empty = ending(alloc, Status::Program, b"void v1_0() {\n}\n")?;
     assert_eq!(rt; synth(alloc, b"void v1() { emp } { emp }")?, empty);
     Ok(())
@@ -100,11 +110,20 @@ fn other_texts_are_refused(rt: HostRuntime) -> Result<(), Fail> {
     let alloc = rt.alloc();
     let refused = ending(alloc, Status::Refused, REFUSED)?;
     assert_eq!(rt; synth(alloc, b"")?, refused);
-    assert_eq!(rt; synth(alloc, b"void f(loc x) { x :-> $ } { emp }")?, refused);
+    assert_eq!(rt;
+        synth(alloc, b"void f(loc x) { x :-> $ } { emp }")?,
+        refused
+    );
     assert_eq!(rt; synth(alloc, b"void f(loc x) { x :-> 1 } { emp")?, refused);
     assert_eq!(rt; synth(alloc, b"void if(loc x) { emp } { emp }")?, refused);
-    assert_eq!(rt; synth(alloc, b"void f(loc x, loc x) { emp } { emp }")?, refused);
-    assert_eq!(rt; synth(alloc, b"void f(loc x) { x :-> 2147483649 } { emp }")?, refused);
+    assert_eq!(rt;
+        synth(alloc, b"void f(loc x, loc x) { emp } { emp }")?,
+        refused
+    );
+    assert_eq!(rt;
+        synth(alloc, b"void f(loc x) { x :-> 2147483649 } { emp }")?,
+        refused
+    );
     let long = [b' '; 65_537];
     assert_eq!(rt; run(alloc, &["synth"], &long, 4096, &[], &[])?, refused);
     Ok(())
@@ -116,12 +135,33 @@ fn words_and_faults_have_their_answers(rt: HostRuntime) -> Result<(), Fail> {
     let usage = ending(alloc, Status::Usage, b"words refused\n")?;
     assert_eq!(rt; run(alloc, &[], SWAP, 64, &[0], &[])?, usage);
     assert_eq!(rt; run(alloc, &["Synth"], SWAP, 64, &[0], &[])?, usage);
-    assert_eq!(rt; run(alloc, &["synth", "synth"], SWAP, 64, &[0], &[])?, usage);
-    assert_eq!(rt; run(alloc, &["synth"], SWAP, 1, &[], &[])?, ending(alloc, Status::Program, SWAPPED)?);
-    assert_eq!(rt; run(alloc, &["synth"], SWAP, 64, &[0], &[])?, ending(alloc, Status::ReadFault, b"")?);
-    assert_eq!(rt; run(alloc, &["synth"], SWAP, 64, &[2], &[])?, ending(alloc, Status::ReadFault, b"")?);
-    assert_eq!(rt; run(alloc, &["synth"], SWAP, 8, &[], &[0])?, ending(alloc, Status::WriteFault, b"")?);
-    assert_eq!(rt; run(alloc, &["synth"], SWAP, 8, &[], &[1])?, ending(alloc, Status::WriteFault, b"void swa")?);
-    assert_eq!(rt; run(alloc, &["word"], SWAP, 8, &[], &[1])?, ending(alloc, Status::WriteFault, b"words re")?);
+    assert_eq!(rt;
+        run(alloc, &["synth", "synth"], SWAP, 64, &[0], &[])?,
+        usage
+    );
+    assert_eq!(rt;
+        run(alloc, &["synth"], SWAP, 1, &[], &[])?,
+        ending(alloc, Status::Program, SWAPPED)?
+    );
+    assert_eq!(rt;
+        run(alloc, &["synth"], SWAP, 64, &[0], &[])?,
+        ending(alloc, Status::ReadFault, b"")?
+    );
+    assert_eq!(rt;
+        run(alloc, &["synth"], SWAP, 64, &[2], &[])?,
+        ending(alloc, Status::ReadFault, b"")?
+    );
+    assert_eq!(rt;
+        run(alloc, &["synth"], SWAP, 8, &[], &[0])?,
+        ending(alloc, Status::WriteFault, b"")?
+    );
+    assert_eq!(rt;
+        run(alloc, &["synth"], SWAP, 8, &[], &[1])?,
+        ending(alloc, Status::WriteFault, b"void swa")?
+    );
+    assert_eq!(rt;
+        run(alloc, &["word"], SWAP, 8, &[], &[1])?,
+        ending(alloc, Status::WriteFault, b"words re")?
+    );
     Ok(())
 }
