@@ -21,16 +21,20 @@ use Rattle.cyp_cell_text.specs.FlatText.{IsFlat}
 
 -- ---- the names of a text
 
+-- the names have the same bytes
 abbrev pub same_name : List ℕ → List ℕ → Bool
 same_name a b = pointwise nat_eq a b
 
+-- the name that the content is, and nothing for a number
 abbrev pub content_names : ContentText → List (List ℕ)
 content_names (contents.Name name) = name ∷ []
 content_names (contents.Number n) = []
 
+-- the names in these cells in their order, in each cell the address before the content
 abbrev pub heap_names : List CellText → List (List ℕ)
 heap_names cs = flat_map (λ (c : CellText). c.address ∷ content_names c.content) cs
 
+-- the names of the text's parameters, in their order
 abbrev pub param_names : FlatText → List (List ℕ)
 param_names t = map (λ (p : ParamText). p.name) t.params
 
@@ -53,10 +57,12 @@ name_place (n ∷ ns) name = cond (same_name n name) 0 (suc (name_place ns name)
 abbrev pub var_named : List (List ℕ) → List ℕ → Var
 var_named names name = record { sort = Int; number = name_place names name }
 
+-- a name as its integer variable, and a number as a constant
 abbrev pub content_term : List (List ℕ) → ContentText → Term
 content_term names (contents.Name name) = var_term (var_named names name)
 content_term names (contents.Number n) = number_term (pos n)
 
+-- the points-to cell that a cell of the text says, with each name as its integer variable
 abbrev pub text_cell : List (List ℕ) → CellText → Chunk
 text_cell names c = Cell (record { at = var_term (var_named names c.address); content = content_term names c.content })
 
@@ -77,6 +83,7 @@ flat_goal t =
 abbrev pub flat_node : FlatText → Node
 flat_node t = record { preds = record { list = [] }; goal = flat_goal t; links = [] }
 
+-- the node in normal form, or the given one where there is none
 abbrev pub node_or : Node → Option Renaming → Node
 node_or n None = n
 node_or n (Some r) = r.node
@@ -87,10 +94,12 @@ root_of t = node_or (flat_node t) (normal (flat_node t))
 
 -- ---- limits
 
+-- a name, or a number of at most 2147483648
 abbrev pub is_small_content : ContentText → Bool
 is_small_content (contents.Name name) = true
 is_small_content (contents.Number n) = nat_le n 2147483648
 
+-- no number in either heap of the text is above 2147483648
 abbrev pub is_small_text : FlatText → Bool
 is_small_text t = list_all (λ (c : CellText). is_small_content c.content) t.pre && list_all (λ (c : CellText). is_small_content c.content) t.post
 

@@ -12,6 +12,7 @@ use Rattle.cyp_cells.specs.declared.flat.FlatTerm.{FlatTerm}
 use Rattle.cyp_cells.specs.declared.flat.FlatTerm.TheVariants.{Named, Number}
 use Rattle.cyp_cell_goal.specs.FlatGoal.{all_names, is_small_content, is_small_text, name_place, param_names, universal_names}
 
+-- the names of these parameters, in their order
 abbrev pub names_of_params : List ParamText → List (List ℕ)
 names_of_params ps = map (λ (p : ParamText). p.name) ps
 
@@ -20,6 +21,7 @@ abbrev pub flat_content : List (List ℕ) → ContentText → FlatTerm
 flat_content names (contents.Name name) = Named (name_place names name)
 flat_content names (contents.Number n) = Number n
 
+-- the cell with each name by its place among these
 abbrev pub flat_cell : List (List ℕ) → CellText → FlatCell
 flat_cell names c = record { at = Named (name_place names c.address); content = flat_content names c.content }
 

@@ -32,6 +32,7 @@ own_lines names new n (ByRead i) = statement_text [] 1 (Loading new (expr_of nam
 own_lines names new n (ByWrite i) = statement_text [] 1 (Storing (expr_of names (pre_cell_at n i)) (expr_of names (focus_content n)))
 own_lines names new n r = []
 
+-- what program variables were called before the normal form, and nothing where there is none
 abbrev pub old_numbers : Option FlatRenaming → List ℕ
 old_numbers None = []
 old_numbers (Some m) = m.old

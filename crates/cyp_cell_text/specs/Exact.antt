@@ -16,6 +16,7 @@ word_exact Int Int v w e = (refl, cc)
 word_exact Loc Int v w e = cc
 word_exact Int Loc v w e = cc
 
+-- lexemes that start with a parameter tell which it is, and what stands behind it
 pub param_exact : IsExact param_spelling
 param_exact x y v w e =
     let param : ParamWord → List ℕ → ParamText = λ p m. record { word = p; name = m } in
@@ -30,6 +31,7 @@ content_exact (contents.Number a) (contents.Number b) v w e = let same : a ≡ b
 content_exact (contents.Name a) (contents.Number b) v w e = cc
 content_exact (contents.Number a) (contents.Name b) v w e = cc
 
+-- lexemes that start with a cell tell which it is, and what stands behind it
 pub cell_exact : IsExact cell_spelling
 cell_exact x y v w e =
     let cell : List ℕ → ContentText → CellText = λ a c. record { address = a; content = c } in

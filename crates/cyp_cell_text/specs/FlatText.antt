@@ -26,36 +26,46 @@ abbrev pub separated : {A : Type 0} → Lexeme → (A → List Lexeme) → List 
 separated separator spell [] = []
 separated separator spell (x ∷ xs) = spell x ++ flat_map (λ y. separator ∷ spell y) xs
 
+-- a name is one lexeme
 abbrev pub name_spelling : List ℕ → List Lexeme
 name_spelling name = Name name ∷ []
 
+-- the type of a parameter is the word `loc` or `int`
 abbrev pub word_spelling : ParamWord → List Lexeme
 word_spelling params.Loc = Word words.Loc ∷ []
 word_spelling params.Int = Word words.Int ∷ []
 
+-- the word of its type, and the parameter's name
 abbrev pub param_spelling : ParamText → List Lexeme
 param_spelling p = word_spelling p.word ++ name_spelling p.name
 
+-- the content of a cell is one lexeme, a name or a number
 abbrev pub content_spelling : ContentText → List Lexeme
 content_spelling (contents.Name name) = Name name ∷ []
 content_spelling (contents.Number n) = Number n ∷ []
 
+-- the address, the sign `:->`, and the content
 abbrev pub cell_spelling : CellText → List Lexeme
 cell_spelling c = name_spelling c.address ++ Sign PointsTo ∷ content_spelling c.content
 
+-- the parameters with a comma between any two, and nothing where there are none
 abbrev pub params_spelling : List ParamText → List Lexeme
 params_spelling ps = separated (Sign Comma) param_spelling ps
 
+-- the word `emp` where there is no cell, else the cells with `**` between any two
 abbrev pub heap_spelling : List CellText → List Lexeme
 heap_spelling [] = Word words.Emp ∷ []
 heap_spelling (c ∷ cs) = separated (Sign TwoStars) cell_spelling (c ∷ cs)
 
+-- the lexemes between `(` and `)`
 abbrev pub in_parens : List Lexeme → List Lexeme
 in_parens inner = Sign LeftParen ∷ inner ++ Sign RightParen ∷ []
 
+-- the lexemes between `{` and `}`
 abbrev pub in_braces : List Lexeme → List Lexeme
 in_braces inner = Sign LeftBrace ∷ inner ++ Sign RightBrace ∷ []
 
+-- the word `void`, the name, the parameters in parentheses, and both heaps in braces
 abbrev pub flat_spelling : FlatText → List Lexeme
 flat_spelling t =
     Word words.Void ∷ name_spelling t.name ++ in_parens (params_spelling t.params) ++ in_braces (heap_spelling t.pre) ++ in_braces (heap_spelling t.post)

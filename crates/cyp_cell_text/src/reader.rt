@@ -70,6 +70,7 @@ impl Part for CellText {
 }
 
 impl Reader {
+    /// A reader that has all of these lexemes before it.
     pub fn new(left: VecDeque<Lexeme>) -> Reader
         ensures { result ≡ left.items }
     {

@@ -28,12 +28,14 @@ pub struct CellText {
     pub content: ContentText,
 }
 
+/// The word that says the type of a parameter: `loc` for a location, `int` for an integer.
 #[derive(Clone, Copy, Debug, PartialEq, Eq)]
 pub enum ParamWord {
     Loc,
     Int,
 }
 
+/// A parameter of the procedure: the word of its type, and its name.
 #[derive(Debug, Drop, PartialEq, Eq)]
 pub struct ParamText {
     pub word: ParamWord,

@@ -30,6 +30,7 @@ abbrev pub is_program_term : Flat → FlatTerm → Bool
 is_program_term f (Named v) = among v f.program
 is_program_term f (Number n) = true
 
+-- the term is an existential of the goal
 abbrev pub has_existential : Flat → FlatTerm → Bool
 has_existential f t = list_any (λ v. among v f.exist) (term_numbers t)
 
@@ -44,9 +45,11 @@ abbrev pub above_all : List ℕ → ℕ
 above_all [] = 0
 above_all (v ∷ vs) = max (suc v) (above_all vs)
 
+-- a number that no variable of the goal has: one above the greatest, and 0 where there is no variable
 abbrev pub new_number : Flat → ℕ
 new_number f = above_all (once (all_numbers f))
 
+-- the list without the element at this place, or as it is where the place is behind its end
 abbrev pub without_at : {A : Type 0} → List A → ℕ → List A
 without_at [] k = []
 without_at (x ∷ xs) zero = xs
@@ -70,6 +73,7 @@ read_content f (Named v) =
     }))
     None
 
+-- what is left where this cell is read; none without a cell, or where the address may not be in a program
 abbrev pub read_at : Flat → Option FlatCell → Option Flat
 read_at f None = None
 read_at f (Some c) = cond (is_program_term f c.at) (read_content f c.content) None
@@ -111,6 +115,7 @@ flat_row r o = elim (option_and_then normal_flat o) [
 abbrev pub last_row : Rule → List (AltOf Rule Flat)
 last_row r = record { rule = r; cost = cost_of r; premises = [] } ∷ []
 
+-- the move that reads the cell at this place of the precondition, where that is allowed
 abbrev pub read_row : Flat → ℕ → Option (AltOf Rule Flat)
 read_row f i = flat_row (ByRead i) (read_at f (slice_get f.pre i))
 
@@ -119,20 +124,25 @@ abbrev pub read_rows_from : Flat → ℕ → ℕ → List (AltOf Rule Flat)
 read_rows_from f k zero = []
 read_rows_from f k (suc left) = elim (read_row f k) [ Some a ↦ a ∷ [] | None ↦ read_rows_from f (suc k) left ]
 
+-- the move that frames the focus with the cell at this place of the precondition, where that is allowed
 abbrev pub frame_row : Flat → ℕ → Option (AltOf Rule Flat)
 frame_row f i = flat_row (ByFrame i) (frame_at f i (slice_get f.post 0) (slice_get f.pre i))
 
+-- the frames of the focus that are allowed, in the order of the precondition's cells
 abbrev pub frame_rows : Flat → List (AltOf Rule Flat)
 frame_rows f = filter_map (frame_row f) (count_from 0 (length f.pre))
 
+-- the move that stores the content of the focus in this cell, and nothing where that isn't allowed
 abbrev pub write_to : Flat → FlatCell → ℕ → Option FlatCell → List (AltOf Rule Flat)
 write_to f p i None = []
 write_to f p i (Some q) = option_to_list (flat_row (ByWrite i) (write_at f i p q))
 
+-- the write to the first cell at the address of the focus, where there is one and that is allowed
 abbrev pub write_focus : Flat → Option FlatCell → List (AltOf Rule Flat)
 write_focus f None = []
 write_focus f (Some p) = elim (first_at p.at 0 f.pre) [ None ↦ [] | Some i ↦ write_to f p i (slice_get f.pre i) ]
 
+-- the write for the first cell of the postcondition, where it is allowed
 abbrev pub write_rows : Flat → List (AltOf Rule Flat)
 write_rows f = write_focus f (slice_get f.post 0)
 
@@ -153,14 +163,17 @@ flat_moves f = elim (is_consistent f) [
 
 -- ---- what the goals of a search keep
 
+-- the term is a variable
 abbrev pub is_named : FlatTerm → Bool
 is_named (Named v) = true
 is_named (Number n) = false
 
+-- a variable, or a number of at most 2^32
 abbrev pub is_small : FlatTerm → Bool
 is_small (Named v) = true
 is_small (Number n) = nat_le n 4294967296
 
+-- address and content are variables or numbers of at most 2^32
 abbrev pub is_small_cell : FlatCell → Bool
 is_small_cell c = is_small c.at && is_small c.content
 

@@ -18,9 +18,11 @@ abbrev pub put_term : ℕ → FlatTerm → FlatTerm → FlatTerm
 put_term v t (Named w) = cond (v == w) t (Named w)
 put_term v t (Number n) = Number n
 
+-- the cell with a term in the place of a variable, in its address and in its content
 abbrev pub put_cell : ℕ → FlatTerm → FlatCell → FlatCell
 put_cell v t c = record { at = put_term v t c.at; content = put_term v t c.content }
 
+-- the equation with a term in the place of a variable, on both sides
 abbrev pub put_equation : ℕ → FlatTerm → FlatEquation → FlatEquation
 put_equation v t e = record { left = put_term v t e.left; right = put_term v t e.right }
 
@@ -42,17 +44,21 @@ pub record Picked : Type 0 where
   pub solution : Solution
   pub rest : List FlatEquation
 
+-- one more equation that can't be solved is kept, in front of the others
 abbrev pub keep_behind : FlatEquation → Picked → Picked
 keep_behind e p = record { solution = p.solution; rest = e ∷ p.rest }
 
+-- this equation where it has a solution, else the one that is picked behind it, and this one is kept
 abbrev pub pick_by : FlatEquation → List FlatEquation → Option Solution → Option Picked → Option Picked
 pick_by e es (Some s) later = Some (record { solution = s; rest = es })
 pick_by e es None later = option_map (keep_behind e) later
 
+-- the first equation that can be solved for one of these existentials, and the others; none where none can
 abbrev pub pick_first : List ℕ → List FlatEquation → Option Picked
 pick_first exist [] = None
 pick_first exist (e ∷ es) = pick_by e es (solution exist e) (pick_first exist es)
 
+-- the solved equation is dropped, and its solution is put in everywhere else
 abbrev pub solve_picked : Flat → Picked → Flat
 solve_picked f p = put_flat p.solution.var p.solution.to (record f { equations = p.rest })
 
@@ -63,12 +69,15 @@ solve_flat (suc k) f = elim (pick_first f.exist f.equations) [ None ↦ f | Some
 
 -- ---- literals that say nothing, and addresses
 
+-- both sides are the same term, so the equation says nothing
 abbrev pub is_alike : FlatEquation → Bool
 is_alike e = same_term e.left e.right
 
+-- the equations have the same left side and the same right side
 abbrev pub same_equation : FlatEquation → FlatEquation → Bool
 same_equation a b = same_term a.left b.left && same_term a.right b.right
 
+-- the variables that are addresses of these cells, in the order of the cells
 abbrev pub address_numbers : List FlatCell → List ℕ
 address_numbers cs = flat_map (λ (c : FlatCell). term_numbers c.at) cs
 
@@ -81,12 +90,15 @@ tidy_flat f = record f {
 
 -- ---- variables that matter
 
+-- the program variables, and the variables of cells and equations, each once
 abbrev pub live_numbers : Flat → List ℕ
 live_numbers f = once (f.program ++ cells_numbers f.pre ++ cells_numbers f.post ++ equations_numbers f.equations)
 
+-- those of the numbers that are wanted, in their order
 abbrev pub only : List ℕ → List ℕ → List ℕ
 only wanted vs = filter (λ v. among v wanted) vs
 
+-- what stays is positivity of live variables, program variables in use, and existentials still to be found
 abbrev pub prune_flat : Flat → Flat
 prune_flat f =
     let positive : List ℕ = only (live_numbers f) f.positive in
@@ -104,16 +116,20 @@ abbrev pub place_from : ℕ → List ℕ → ℕ → ℕ
 place_from k [] v = k
 place_from k (w ∷ ws) v = elim (w == v) [ true ↦ k | false ↦ place_from (suc k) ws v ]
 
+-- the place of the number in the list, or the list's length where it isn't there
 abbrev pub place_in : List ℕ → ℕ → ℕ
 place_in vs v = place_from 0 vs v
 
+-- a variable by its place among these, and a number as it is
 abbrev pub rename_term : List ℕ → FlatTerm → FlatTerm
 rename_term vs (Named v) = Named (place_in vs v)
 rename_term vs (Number n) = Number n
 
+-- address and content, with each variable by its place among these
 abbrev pub rename_cell : List ℕ → FlatCell → FlatCell
 rename_cell vs c = record { at = rename_term vs c.at; content = rename_term vs c.content }
 
+-- both sides, with each variable by its place among these
 abbrev pub rename_equation : List ℕ → FlatEquation → FlatEquation
 rename_equation vs e = record { left = rename_term vs e.left; right = rename_term vs e.right }
 
@@ -128,14 +144,17 @@ rename_flat vs f = record {
   post = map (rename_cell vs) f.post;
 }
 
+-- the goal's variables are numbered from 0, in the order of first occurrence
 abbrev pub number_flat : Flat → Flat
 number_flat f = rename_flat (once (all_numbers f)) f
 
 -- ---- limits
 
+-- the goal's size: 1 for a program variable, 3 for a cell, a positive variable or an equation
 abbrev pub flat_units : Flat → ℕ
 flat_units f = length f.program + 3 * length f.pre + 3 * length f.post + 3 * length f.positive + 3 * length f.equations
 
+-- the counts of cells, literals and variables, and the size, are within the limits of a node
 abbrev pub is_flat_within : Flat → Bool
 is_flat_within f =
     nat_le (length f.pre) 16 && nat_le (length f.post) 16 && nat_le (length f.positive) 40 && nat_le (length f.equations) 40

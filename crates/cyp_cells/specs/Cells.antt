@@ -23,10 +23,12 @@ use Rattle.cyp_term.specs.declared.term.Var.{Var}
 abbrev pub int_var : ℕ → Var
 int_var v = record { sort = Int; number = v }
 
+-- the integer variable, or the number as a constant
 abbrev pub term_of : FlatTerm → Term
 term_of (Named v) = var_term (int_var v)
 term_of (Number n) = number_term (pos n)
 
+-- the points-to cell, as a part of a heap
 abbrev pub cell_of : FlatCell → Chunk
 cell_of c = Cell (record { at = term_of c.at; content = term_of c.content })
 
@@ -34,9 +36,11 @@ cell_of c = Cell (record { at = term_of c.at; content = term_of c.content })
 abbrev pub positive_of : ℕ → Lit
 positive_of v = Lt (number_term (pos 0)) (var_term (int_var v))
 
+-- the literal that both sides are equal
 abbrev pub equation_of : FlatEquation → Lit
 equation_of e = Eq (term_of e.left) (term_of e.right)
 
+-- positive variables and the cells of `pre` are assumed; equations and the cells of `post` are to be shown
 abbrev pub goal_of : Flat → Goal
 goal_of f = record {
   program = map int_var f.program;
@@ -53,22 +57,28 @@ node_of f = record { preds = record { list = [] }; goal = goal_of f; links = [] 
 
 -- ---- numbers of variables, in order
 
+-- the number stands in the list
 abbrev pub among : ℕ → List ℕ → Bool
 among v vs = list_any (λ w. v == w) vs
 
+-- the variable that the term is, and nothing for a number
 abbrev pub term_numbers : FlatTerm → List ℕ
 term_numbers (Named v) = v ∷ []
 term_numbers (Number n) = []
 
+-- the variables of the cell, the address before the content
 abbrev pub cell_numbers : FlatCell → List ℕ
 cell_numbers c = term_numbers c.at ++ term_numbers c.content
 
+-- the variables of the cells in their order, each as often as it stands there
 abbrev pub cells_numbers : List FlatCell → List ℕ
 cells_numbers cs = flat_map cell_numbers cs
 
+-- the variables of the equation, the left side before the right
 abbrev pub equation_numbers : FlatEquation → List ℕ
 equation_numbers e = term_numbers e.left ++ term_numbers e.right
 
+-- the variables of the equations in their order, each as often as it stands there
 abbrev pub equations_numbers : List FlatEquation → List ℕ
 equations_numbers es = flat_map equation_numbers es
 

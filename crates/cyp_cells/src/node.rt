@@ -28,6 +28,7 @@ impl CellsNode {
     ghost use Rattle.cyp_cells.specs.CellMoves.{IsCells};
     ghost use Rattle.cyp_moves.specs.Moves.{weight};
 
+    /// The node that this goal stands for.
     pub fn new(flat: Flat) -> CellsNode
         requires { IsCells flat }
         ensures { result ≡ node_of flat }

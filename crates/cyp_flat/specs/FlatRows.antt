@@ -34,10 +34,12 @@ abbrev pub by_number : Var → List Var → List Var
 by_number v [] = v ∷ []
 by_number v (w ∷ ws) = cond (nat_lt v.number w.number) (v ∷ w ∷ ws) (w ∷ by_number v ws)
 
+-- the variables sorted by number
 abbrev pub in_order : List Var → List Var
 in_order [] = []
 in_order (v ∷ vs) = by_number v (in_order vs)
 
+-- the universal variables of the variable's sort, each once, sorted by number; none without a variable
 abbrev pub candidates_for : Goal → Option Var → List Var
 candidates_for g None = []
 candidates_for g (Some v) = in_order (without_repeats var_eq (filter (λ u. is_universal g v.sort u) (goal_vars g)))

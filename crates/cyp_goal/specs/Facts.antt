@@ -8,19 +8,23 @@ use Rattle.cyp_term.specs.declared.lit.Lit.{Lit}
 use Rattle.cyp_term.specs.declared.lit.Lit.TheVariants.{Ne}
 use Rattle.cyp_term.specs.declared.term.Term.{Term}
 
+-- the address of a cell; other chunks give none
 abbrev pub cell_address : Chunk → List Term
 cell_address (Inst i) = []
 cell_address (Block k) = []
 cell_address (Cell k) = k.at ∷ []
 
+-- the base of a block; other chunks give none
 abbrev pub block_address : Chunk → List Term
 block_address (Inst i) = []
 block_address (Block k) = k.at ∷ []
 block_address (Cell k) = []
 
+-- the addresses of the cells among the chunks, in order
 abbrev pub cell_addresses : List Chunk → List Term
 cell_addresses cs = flat_map cell_address cs
 
+-- the bases of the blocks among the chunks, in order
 abbrev pub block_addresses : List Chunk → List Term
 block_addresses cs = flat_map block_address cs
 

@@ -11,9 +11,11 @@ abbrev pub rank_from : ℕ → List Var → Var → ℕ
 rank_from k [] v = k
 rank_from k (w ∷ ws) v = elim (var_eq w v) [ true ↦ k | false ↦ rank_from (cond (sort_eq w.sort v.sort) (suc k) k) ws v ]
 
+-- the place of the variable among those of its sort in the list, counted from 0
 abbrev pub rank_in : List Var → Var → ℕ
 rank_in vs v = rank_from 0 vs v
 
+-- the variable of the same sort that is numbered by its place among those of this sort
 abbrev pub new_name : List Var → Var → Var
 new_name vs v = record { sort = v.sort; number = rank_in vs v }
 
@@ -24,6 +26,7 @@ numbering vs = record {
   sets = map (λ v. record { var = v; to = set_var (new_name vs v) }) (filter is_set_var vs);
 }
 
+-- the variables of each sort numbered from 0 on, in order of first occurrence in the node
 abbrev pub renumber : Node → Node
 renumber n =
     let vs : List Var = node_vars n in

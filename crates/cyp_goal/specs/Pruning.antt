@@ -13,6 +13,7 @@ use Rattle.cyp_term.specs.declared.subst.SetBind.{SetBind}
 use Rattle.cyp_term.specs.declared.subst.Subst.{Subst}
 use Rattle.cyp_term.specs.declared.term.Var.{Var}
 
+-- the literal has a live variable
 abbrev pub touches : List Var → Lit → Bool
 touches live l = list_any (λ v. var_in v live) (lit_vars l)
 
@@ -26,12 +27,14 @@ abbrev pub spread_times : ℕ → List Lit → List Var → List Var
 spread_times zero ls live = live
 spread_times (suc k) ls live = spread_times k ls (spread ls live)
 
+-- the variables of program, chunks, pure post and measures, and those that the pure pre ties to them
 abbrev pub live_vars : Node → List Var
 live_vars n =
     let g : Goal = n.goal in
     spread_times (length g.pure_pre) g.pure_pre
     (without_repeats var_eq (g.program ++ chunks_vars g.pre.chunks ++ chunks_vars g.post.chunks ++ lits_vars g.pure_post ++ tuple_vars n.links))
 
+-- a literal is kept where it has a live variable, or no variable at all
 abbrev pub is_kept : List Var → Lit → Bool
 is_kept live l = cond (touches live l) true (length (lit_vars l) == 0)
 

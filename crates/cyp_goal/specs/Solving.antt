@@ -20,6 +20,7 @@ use Rattle.cyp_term.specs.declared.term.Var.{Var}
 abbrev pub bind_int : Var → Term → Subst
 bind_int v t = record { ints = record { var = v; to = t } ∷ []; sets = [] }
 
+-- one set variable by a set term
 abbrev pub bind_set : Var → SetTerm → Subst
 bind_set v u = record { ints = []; sets = record { var = v; to = u } ∷ [] }
 
@@ -29,6 +30,7 @@ solved_base test None s t = None
 solved_base test (Some v) s t =
     cond (sort_eq v.sort Int && test v && not (base_eq (Some v) t.base)) (Some (bind_int v (plus t (neg_ℤ s.offset)))) None
 
+-- the equation s = t of integers solved for the base of s, where that may be solved for
 abbrev pub solved_side : (Var → Bool) → Term → Term → Option Subst
 solved_side test s t = solved_base test s.base s t
 
@@ -37,9 +39,11 @@ abbrev pub solved_parts : (Var → Bool) → List Var → List Term → SetTerm 
 solved_parts test (v ∷ []) [] t = cond (test v && not (var_in v t.vars)) (Some (bind_set v t)) None
 solved_parts test _ _ t = None
 
+-- the equation s = t of sets solved for s, where that is one variable that may be solved for
 abbrev pub solved_set : (Var → Bool) → SetTerm → SetTerm → Option Subst
 solved_set test s t = solved_parts test s.vars s.elems t
 
+-- the first answer, or the second where there is no first
 abbrev pub first_some : {A : Type 0} → Option A → Option A → Option A
 first_some None b = b
 first_some (Some x) b = Some x
@@ -64,6 +68,7 @@ first_solved f (l ∷ ls) =
       | None ↦ option_map (λ (p : Subst × List Lit). (p.0, l ∷ p.1)) (first_solved f ls)
     ]
 
+-- an image of the substitution has an offset past 2 ^ 32
 abbrev pub wide_subst : Subst → Bool
 wide_subst by = list_any (λ (b : IntBind). wide_term b.to) by.ints || list_any (λ (b : SetBind). wide_set b.to) by.sets
 
@@ -75,9 +80,11 @@ substitute by n = let m : Node = apply_node by n in cond (wide_subst by || wide_
 abbrev pub is_logical : Goal → Var → Bool
 is_logical g v = not (var_in v g.program) && not (var_in v g.exist)
 
+-- the node with these literals as its pure precondition
 abbrev pub with_pre : Node → List Lit → Node
 with_pre n ls = record n { goal = record n.goal { pure_pre = ls } }
 
+-- the node with these literals as its pure postcondition
 abbrev pub with_post : Node → List Lit → Node
 with_post n ls = record n { goal = record n.goal { pure_post = ls } }
 

@@ -25,6 +25,7 @@ tidy_lits ls = without_repeats lit_eq (filter (λ l. not (is_plainly_true l)) ls
 
 -- ---- addresses are positive
 
+-- the address of a cell or the base of a block; an instance gives none
 abbrev pub address : Chunk → List Term
 address (Inst i) = []
 address (Block k) = k.at ∷ []
@@ -35,6 +36,7 @@ abbrev pub least : ℤ → List ℤ → ℤ
 least z [] = z
 least z (y ∷ ys) = least (cond (int_lt y z) y z) ys
 
+-- the least of these, or 0 where there are none
 abbrev pub least_of : List ℤ → ℤ
 least_of [] = pos 0
 least_of (z ∷ zs) = least z zs
@@ -43,6 +45,7 @@ least_of (z ∷ zs) = least z zs
 abbrev pub offsets_at : Var → List Term → List ℤ
 offsets_at v ts = map (λ (t : Term). t.offset) (filter (λ (t : Term). base_eq (Some v) t.base) ts)
 
+-- that the term is greater than 0
 abbrev pub above_zero : Term → Lit
 above_zero t = Lt (number_term (pos 0)) t
 
@@ -52,5 +55,6 @@ address_lits ts =
     map (λ v. above_zero (record { base = Some v; offset = least_of (offsets_at v ts) })) (without_repeats var_eq (flat_map term_vars ts))
     ++ map above_zero (filter (λ (t : Term). base_eq t.base None && int_le t.offset (pos 0)) ts)
 
+-- the pure precondition also says that the addresses of its heap are positive
 abbrev pub with_addresses : Goal → Goal
 with_addresses g = record g { pure_pre = with_all_new lit_eq g.pure_pre (address_lits (flat_map address g.pre.chunks)) }

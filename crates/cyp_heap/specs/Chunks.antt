@@ -11,10 +11,12 @@ use Rattle.cyp_term.specs.Terms.{apply_set, apply_term, apply_var, set_vars, ter
 use Rattle.cyp_term.specs.declared.subst.Subst.{Subst}
 use Rattle.cyp_term.specs.declared.term.Var.{Var}
 
+-- the cardinality of an instance as a list, empty where it has none
 abbrev pub card_vars : Option Var → List Var
 card_vars None = []
 card_vars (Some v) = v ∷ []
 
+-- the variables of an argument, be it an integer term or a set term, as they are written
 abbrev pub arg_vars : Arg → List Var
 arg_vars (IntArg t) = term_vars t
 arg_vars (SetArg u) = set_vars u
@@ -25,9 +27,11 @@ chunk_vars (Inst i) = flat_map arg_vars i.args ++ card_vars i.card
 chunk_vars (Block k) = term_vars k.at
 chunk_vars (Cell k) = term_vars k.at ++ term_vars k.content
 
+-- the variables of the chunks, one chunk after another, with repeats
 abbrev pub chunks_vars : List Chunk → List Var
 chunks_vars cs = flat_map chunk_vars cs
 
+-- the chunk is an instance of a predicate
 abbrev pub is_inst : Chunk → Bool
 is_inst (Inst i) = true
 is_inst _ = false
@@ -41,6 +45,7 @@ insts (Cell k ∷ cs) = insts cs
 
 -- ---- order of chunks: instances, blocks, cells
 
+-- where the kind of a chunk stands in a heap: instances first, then blocks, then cells
 abbrev pub kind_rank : Chunk → ℕ
 kind_rank (Inst i) = 0
 kind_rank (Block k) = 1
@@ -64,28 +69,34 @@ without (x ∷ xs) (suc k) = x ∷ without xs k
 
 -- ---- substitution
 
+-- the argument with every variable replaced by its image
 abbrev pub apply_arg : Subst → Arg → Arg
 apply_arg by (IntArg t) = IntArg (apply_term by t)
 apply_arg by (SetArg u) = SetArg (apply_set by u)
 
+-- the cardinality replaced by the base of its image, where there is one
 abbrev pub apply_card : Subst → Option Var → Option Var
 apply_card by None = None
 apply_card by (Some v) = Some (apply_var by v)
 
+-- the chunk with every variable replaced by its image; predicate, tag and size stay
 abbrev pub apply_chunk : Subst → Chunk → Chunk
 apply_chunk by (Inst i) = Inst (record { pred = i.pred; args = map (apply_arg by) i.args; card = apply_card by i.card; tag = i.tag })
 apply_chunk by (Block k) = Block (record { at = apply_term by k.at; size = k.size })
 apply_chunk by (Cell k) = Cell (record { at = apply_term by k.at; content = apply_term by k.content })
 
+-- the substitution in each chunk, in the same order
 abbrev pub apply_heap : Subst → Heap → Heap
 apply_heap by h = record { chunks = map (apply_chunk by) h.chunks }
 
 -- ---- offsets past 2 ^ 32
 
+-- a term of the argument, or an element of its set term, has an offset past 2 ^ 32
 abbrev pub wide_arg : Arg → Bool
 wide_arg (IntArg t) = wide_term t
 wide_arg (SetArg u) = wide_set u
 
+-- an argument, the address or the content has an offset past 2 ^ 32
 abbrev pub wide_chunk : Chunk → Bool
 wide_chunk (Inst i) = list_any wide_arg i.args
 wide_chunk (Block k) = wide_term k.at

@@ -19,15 +19,18 @@ use Rattle.cyp_term.specs.declared.term.Sort.TheVariants.{Card, Int, Set}
 use Rattle.cyp_term.specs.declared.term.Term.{Term}
 use Rattle.cyp_term.specs.declared.term.Var.{Var}
 
+-- an integer term has sort Int, a set term has sort Set
 abbrev pub arg_sort : Arg → Sort
 arg_sort (IntArg t) = Int
 arg_sort (SetArg u) = Set
 
+-- there are as many arguments as sorts, and each argument has the sort at its place
 abbrev pub sorts_fit : List Arg → List Sort → Bool
 sorts_fit [] [] = true
 sorts_fit (a ∷ xs) (s ∷ ss) = sort_eq (arg_sort a) s && sorts_fit xs ss
 sorts_fit _ _ = false
 
+-- the predicate is there, and the arguments of the instance fit its parameters in number and sorts
 abbrev pub fits_pred : InstOf → Option Pred → Bool
 fits_pred i None = false
 fits_pred i (Some q) = sorts_fit i.args q.params
@@ -36,10 +39,12 @@ fits_pred i (Some q) = sorts_fit i.args q.params
 abbrev pub inst_fits : Preds → InstOf → Bool
 inst_fits preds i = fits_pred i (slice_get preds.list i.pred)
 
+-- there is a cardinality, and it is a variable of sort Card
 abbrev pub is_card_var : Option Var → Bool
 is_card_var None = false
 is_card_var (Some v) = sort_eq v.sort Card
 
+-- each instance fits its predicate; those of the pre have a cardinality, those of the post have none
 abbrev pub insts_fit : Preds → Goal → Bool
 insts_fit preds g =
     list_all (inst_fits preds) (insts g.pre.chunks ++ insts g.post.chunks)
@@ -48,6 +53,7 @@ insts_fit preds g =
 
 -- ---- a goal that is formed
 
+-- no variable stands twice in the list
 abbrev pub all_differ : List Var → Bool
 all_differ [] = true
 all_differ (v ∷ vs) = not (var_in v vs) && all_differ vs
@@ -82,6 +88,7 @@ pub record IsFormed (preds : Preds) (g : Goal) : Type 0 where
 
 -- ---- a node that is well linked
 
+-- the second list begins with the terms of the first
 abbrev pub is_prefix : List Term → List Term → Bool
 is_prefix [] ys = true
 is_prefix (x ∷ xs) (y ∷ ys) = term_eq x y && is_prefix xs ys
@@ -98,6 +105,7 @@ abbrev pub tuples_short : ℕ → List Link → Bool
 tuples_short room [] = true
 tuples_short room (k ∷ ks) = nat_le (length k.tuple) room && tuples_short (room + 16) ks
 
+-- at most 4 companions with fitting goals within limits, and short measures that each extend the one before
 pub record IsWellLinked (n : Node) : Type 0 where
   pub few : IsTrue (nat_le (length n.links) 4)
   pub goals_within : IsTrue (list_all (λ (k : Link). is_within_limits (record { preds = n.preds; goal = k.goal; links = [] })) n.links)

@@ -17,14 +17,17 @@ use Rattle.cyp_term.specs.declared.term.Sort.TheVariants.{Int}
 use Rattle.cyp_term.specs.declared.term.Term.{Term}
 use Rattle.cyp_term.specs.declared.term.Var.{Var}
 
+-- the element terms of an argument: the single elements in a set term, none in an integer term
 abbrev pub arg_elements : Arg → List Term
 arg_elements (IntArg t) = []
 arg_elements (SetArg u) = u.elems
 
+-- the element terms in the arguments of an instance; blocks and cells have none
 abbrev pub chunk_elements : Chunk → List Term
 chunk_elements (Inst i) = flat_map arg_elements i.args
 chunk_elements _ = []
 
+-- the element terms of the literals and chunks of both sides, with repeats
 abbrev pub goal_elements : Goal → List Term
 goal_elements g =
     flat_map lit_elements g.pure_pre ++ flat_map chunk_elements g.pre.chunks ++ flat_map lit_elements g.pure_post ++ flat_map chunk_elements g.post.chunks
@@ -33,6 +36,7 @@ goal_elements g =
 abbrev pub set_units : SetTerm → ℕ
 set_units u = length u.vars + length u.elems
 
+-- an integer term is a unit, a set term has one for each of its parts
 abbrev pub arg_units : Arg → ℕ
 arg_units (IntArg t) = 1
 arg_units (SetArg u) = set_units u
@@ -43,6 +47,7 @@ chunk_units (Inst i) = 1 + sum_by arg_units i.args
 chunk_units (Block k) = 2
 chunk_units (Cell k) = 3
 
+-- a literal is a unit, and each integer term and each part of a set term in it is one
 abbrev pub lit_units : Lit → ℕ
 lit_units (Same a b) = 1 + set_units a + set_units b
 lit_units (NotSame a b) = 1 + set_units a + set_units b
@@ -52,6 +57,7 @@ lit_units (Sub a b) = 1 + set_units a + set_units b
 lit_units (NotSub a b) = 1 + set_units a + set_units b
 lit_units _ = 3
 
+-- each program variable is a unit, beside those of the chunks and literals of both sides
 abbrev pub goal_units : Goal → ℕ
 goal_units g =
     length g.program + sum_by chunk_units g.pre.chunks + sum_by chunk_units g.post.chunks + sum_by lit_units g.pure_pre + sum_by lit_units g.pure_post
@@ -60,6 +66,7 @@ goal_units g =
 abbrev pub link_units : Link → ℕ
 link_units k = length k.tuple + 2 * length k.map.ints + sum_by (λ (b : SetBind). 1 + set_units b.to) k.map.sets
 
+-- the units of the goal and of all its companions
 abbrev pub node_units : Node → ℕ
 node_units n = goal_units n.goal + sum_by link_units n.links
 

@@ -9,6 +9,7 @@ use Rattle.cyp_step.specs.declared.rule.Rule.TheVariants.{ByCall, ByOpen}
 abbrev pub Proof : Type 0
 Proof = Derivation Rule Node
 
+-- the derivations of a rule's premises in order
 abbrev pub Proofs : Type 0
 Proofs = Derivations Rule Node
 

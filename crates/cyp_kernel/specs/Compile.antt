@@ -20,9 +20,11 @@ is_binder (ByRead i) = true
 is_binder ByAlloc = true
 is_binder r = false
 
+-- where the rule binds a variable, the names get that variable with its number, `new`
 abbrev pub with_new_name : Node → Rule → ℕ → Names → Names
 with_new_name n r new names = cond (is_binder r) (names ++ (new_int n, new) ∷ []) names
 
+-- the number of parameters and binders on the path once the rule has been applied
 abbrev pub bound_count : Rule → ℕ → ℕ
 bound_count r m = cond (is_binder r) (suc m) m
 
@@ -30,6 +32,7 @@ bound_count r m = cond (is_binder r) (suc m) m
 abbrev pub renamed_names : Names → Renaming → Names
 renamed_names names r = zip r.node.goal.program (map (name_of names) r.old)
 
+-- the premises' renamings, and an empty list where the rule isn't allowed
 abbrev pub renamings : Option (List Renaming) → List Renaming
 renamings None = []
 renamings (Some rs) = rs
@@ -39,10 +42,12 @@ abbrev pub with_proc : Rule → ℕ → List ℕ → List ℕ
 with_proc (ByOpen i) self procs = procs ++ self ∷ []
 with_proc r self procs = procs
 
+-- the names at the first premise; empty where there is no premise
 abbrev pub head_names : Names → List Renaming → Names
 head_names names [] = []
 head_names names (r ∷ rs) = renamed_names names r
 
+-- the renamings of all premises but the first
 abbrev pub tail_renamings : List Renaming → List Renaming
 tail_renamings [] = []
 tail_renamings (r ∷ rs) = rs
@@ -74,6 +79,7 @@ procedure_body self procs (Derived n r ps) = body true self (suc self) (param_na
 abbrev pub auxiliary_name : List ℕ → ℕ → List ℕ
 auxiliary_name main k = main ++ (95 ∷ decimal k)
 
+-- the procedure that begins at the derivation, with a parameter for each program variable of its goal
 abbrev pub procedure : List ℕ → ℕ → List ℕ → Proof → Procedure
 procedure name self procs (Derived n r ps) =
     record { name = name; params = length n.goal.program; body = procedure_body self procs (Derived n r ps) }
@@ -93,9 +99,11 @@ abbrev mutual
 
 -- ---- names that are variables
 
+-- the byte is a decimal digit, `0` to `9`
 abbrev pub is_digit : ℕ → Bool
 is_digit c = nat_le 48 c && nat_le c 57
 
+-- the number that these decimal digits spell when they are written behind the digits of `n`
 abbrev pub number_of : ℕ → List ℕ → ℕ
 number_of n [] = n
 number_of n (c ∷ cs) = number_of (10 * n + (c - 48)) cs
@@ -106,6 +114,7 @@ is_variable_name (v ∷ d ∷ cs) =
     (v == 118) && list_all is_digit (d ∷ cs) && not (d == 48) && nat_le (number_of 0 (d ∷ cs)) 65535
 is_variable_name _ = false
 
+-- the main procedure's name: the given one, with `_0` behind it where it would read as a variable
 abbrev pub main_name : List ℕ → List ℕ
 main_name name = cond (is_variable_name name) (name ++ 95 ∷ 48 ∷ []) name
 

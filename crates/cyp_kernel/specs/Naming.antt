@@ -15,17 +15,21 @@ use Rattle.cyp_term.specs.declared.term.Var.{Var}
 abbrev pub Names : Type 0
 Names = List (Var × ℕ)
 
+-- the number of the program variable that stands for this one; 0 where it has no name
 abbrev pub name_of : Names → Var → ℕ
 name_of [] v = 0
 name_of (p ∷ ps) v = cond (var_eq p.0 v) p.1 (name_of ps v)
 
+-- the name of a term's base, where it has one
 abbrev pub base_name : Names → Option Var → Option ℕ
 base_name names None = None
 base_name names (Some v) = Some (name_of names v)
 
+-- the expression that computes a term: the name of its base plus its offset
 abbrev pub expr_of : Names → Term → Expr
 expr_of names t = record { var = base_name names t.base; offset = t.offset }
 
+-- the test that decides an integer literal; `0 == 0` for a literal of another kind
 abbrev pub test_of : Names → Lit → Test
 test_of names (Eq a b) = record { left = expr_of names a; sign = Equal; right = expr_of names b }
 test_of names (Ne a b) = record { left = expr_of names a; sign = Unequal; right = expr_of names b }

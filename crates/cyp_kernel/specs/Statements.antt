@@ -23,6 +23,7 @@ use Rattle.cyp_unify.specs.Matches.{match_at}
 use Rattle.cyp_unify.specs.declared.found.Match.{Match}
 use Rattle.cyp_unify.specs.declared.found.Mend.{Mend}
 
+-- the address of a cell or block, and 0 for anything else
 abbrev pub chunk_address : Option Chunk → Term
 chunk_address (Some (Cell c)) = c.at
 chunk_address (Some (Block b)) = b.at
@@ -32,20 +33,25 @@ chunk_address _ = number_term (pos 0)
 abbrev pub pre_cell_at : Node → ℕ → Term
 pre_cell_at n i = chunk_address (slice_get (pre_of n) i)
 
+-- the content of a cell, and 0 for anything else
 abbrev pub chunk_content : Option Chunk → Term
 chunk_content (Some (Cell c)) = c.content
 chunk_content _ = number_term (pos 0)
 
+-- the content of the focus, the postcondition's first chunk: what a write stores
 abbrev pub focus_content : Node → Term
 focus_content n = chunk_content (focus n.goal)
 
+-- the number of cells of a block, and 0 for anything else
 abbrev pub block_size : Option Chunk → ℕ
 block_size (Some (Block b)) = b.size
 block_size _ = 0
 
+-- the size of the focus, the postcondition's first chunk: how many cells an allocation takes
 abbrev pub focus_size : Node → ℕ
 focus_size n = block_size (focus n.goal)
 
+-- the body of the first premise; the empty body where there is no premise
 abbrev pub first_body : List Body → Body
 first_body [] = End
 first_body (b ∷ bs) = b
@@ -65,24 +71,29 @@ abbrev pub by_cell : Mend → List Mend → List Mend
 by_cell m [] = m ∷ []
 by_cell m (k ∷ ks) = cond (nat_lt m.cell k.cell) (m ∷ k ∷ ks) (k ∷ by_cell m ks)
 
+-- the stores sorted by the place of their cell
 abbrev pub in_cell_order : List Mend → List Mend
 in_cell_order [] = []
 in_cell_order (m ∷ ms) = by_cell m (in_cell_order ms)
 
+-- one store statement for each of these stores, and then the body
 abbrev pub stores : Node → Names → List Mend → Body → Body
 stores n names [] b = b
 stores n names (m ∷ ms) b = Then (Storing (expr_of names (pre_cell_at n m.cell)) (expr_of names m.value)) (stores n names ms b)
 
+-- the stores as a list, empty where some store that is needed is not possible
 abbrev pub kept_mends : Option (List Mend) → List Mend
 kept_mends None = []
 kept_mends (Some ms) = ms
 
+-- stores, the call on the images of the companion's variables, and what follows; empty without a match
 abbrev pub matched_call : Node → Names → List ℕ → CallBy → Body → Link → Option Match → Body
 matched_call n names procs c b l None = End
 matched_call n names procs c b l (Some f) =
     stores n names (in_cell_order (kept_mends (writes_for n.goal f)))
     (Then (Invoking (slice_index procs c.link) (map (λ v. expr_of names (apply_term f.by (var_term v))) l.goal.program)) b)
 
+-- the statements of a call of this companion by its pairing; the empty body where there is none
 abbrev pub linked_call : Node → Names → List ℕ → CallBy → Body → Option Link → Body
 linked_call n names procs c b None = End
 linked_call n names procs c b (Some l) = matched_call n names procs c b l (match_at n l c.pairs)

@@ -3,6 +3,7 @@ use Rattle.std.specs.Prelude.{ℕ}
 use Rattle.cyp_lex.specs.declared.fault.FaultKind.{FaultKind}
 use Rattle.cyp_lex.specs.declared.fault.FaultKind.TheVariants.{BadByte, Expected, NumberRange, DuplicateName, ReservedName, UnknownPredicate, WrongArity, WrongSort, NotDifference, UnboundVariable, GuardsOverlap, Unproductive, TooLarge, MissingProcedure, TooLong}
 
+-- the number by which a kind of fault is named outside the program
 abbrev pub fault_number : FaultKind → ℕ
 fault_number BadByte = 1
 fault_number Expected = 2

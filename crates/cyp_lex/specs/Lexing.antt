@@ -17,6 +17,7 @@ use Rattle.cyp_lex.specs.declared.lexer.Piece.{Piece}
 use Rattle.cyp_lex.specs.declared.lexer.Piece.TheVariants.{Blank, Begun, Bad}
 use Rattle.cyp_lex.specs.Spelled.{word_text, sign_text}
 
+-- the reserved words, which cannot be names
 abbrev pub words : List Word
 words = Predicate ∷ Void ∷ Loc ∷ Int ∷ Set ∷ Emp ∷ True ∷ Not ∷ In ∷ If ∷ Else ∷ Let ∷ Malloc ∷ Free ∷ Error ∷ []
 
@@ -26,18 +27,23 @@ signs =
     PointsTo ∷ Subset ∷ TwoStars ∷ TwoPluses ∷ Implies ∷ Equal ∷ Unequal ∷ AtMost ∷ AtLeast ∷ SlashAnd ∷ AndAnd ∷ Same ∷ Less ∷ Greater
     ∷ LeftParen ∷ RightParen ∷ LeftBrace ∷ RightBrace ∷ LeftBracket ∷ RightBracket ∷ Comma ∷ Semicolon ∷ Bar ∷ Plus ∷ Minus ∷ []
 
+-- the byte is one of `0` to `9`
 abbrev pub is_digit : ℕ → Bool
 is_digit c = nat_le 48 c && nat_le c 57
 
+-- the byte can begin a word or a name: a letter or `_`
 abbrev pub is_name_start : ℕ → Bool
 is_name_start c = (nat_le 65 c && nat_le c 90) || (nat_le 97 c && nat_le c 122) || (c == 95)
 
+-- the byte can stand in a word or a name behind its first byte: a letter, a digit or `_`
 abbrev pub is_name_byte : ℕ → Bool
 is_name_byte c = is_name_start c || is_digit c
 
+-- the byte is a space, a tab, a carriage return or a line feed
 abbrev pub is_blank : ℕ → Bool
 is_blank c = (c == 32) || (c == 9) || (c == 13) || (c == 10)
 
+-- the byte is not a line feed, so that a comment goes on over it
 abbrev pub is_no_line_end : ℕ → Bool
 is_no_line_end c = not (c == 10)
 
@@ -46,14 +52,17 @@ unfoldable pub name_kind : List Word → List ℕ → TokenKind
 name_kind [] text = kinds.Name
 name_kind (w ∷ ws) text = cond (bytes_eq text (word_text w)) (kinds.Word w) (name_kind ws text)
 
+-- the first bytes are those of `front`
 abbrev pub begins_with : List ℕ → List ℕ → Bool
 begins_with bytes front = bytes_eq front (take (length front) bytes)
 
+-- the symbol is `<=i` or `=i`
 abbrev pub ends_in_letter : Sign → Bool
 ends_in_letter Subset = true
 ends_in_letter Same = true
 ends_in_letter s = false
 
+-- the first byte is a letter, a digit or `_`
 abbrev pub goes_on : List ℕ → Bool
 goes_on [] = false
 goes_on (b ∷ bs) = is_name_byte b
@@ -62,17 +71,21 @@ goes_on (b ∷ bs) = is_name_byte b
 unfoldable pub stands : Sign → List ℕ → Bool
 stands s bytes = begins_with bytes (sign_text s) && not (ends_in_letter s && goes_on (drop (length (sign_text s)) bytes))
 
+-- the first of these symbols that stands at the front of the bytes, if any does
 unfoldable pub sign_at : List Sign → List ℕ → Option Sign
 sign_at [] bytes = None
 sign_at (s ∷ ss) bytes = cond (stands s bytes) (Some s) (sign_at ss bytes)
 
+-- the greatest number that a text may write, 2 ^ 31
 abbrev pub greatest : ℕ
 greatest = 2147483648
 
+-- the decimal number whose leading digits have the value `n`, and whose other digits are these bytes
 abbrev pub decimal_value : ℕ → List ℕ → ℕ
 decimal_value n [] = n
 decimal_value n (c ∷ cs) = decimal_value (10 * n + (c - 48)) cs
 
+-- the number, or nothing where it is too great for a text
 abbrev pub number_result : ℕ → Option ℕ
 number_result n = cond (nat_le n greatest) (Some n) None
 
@@ -81,13 +94,16 @@ abbrev pub number_piece : Option ℕ → ℕ → Piece
 number_piece None more = Bad NumberRange
 number_piece (Some n) more = Begun (kinds.Number n) more
 
+-- the token of a symbol that was found, or the fault that no token begins with this byte
 abbrev pub sign_piece : Option Sign → Piece
 sign_piece None = Bad BadByte
 sign_piece (Some s) = Begun (kinds.Sign s) (length (sign_text s) - 1)
 
+-- the byte and those behind it up to the first that fails the test
 abbrev pub run_of : (ℕ → Bool) → ℕ → List ℕ → List ℕ
 run_of test b bs = b ∷ take (prefix_len test bs) bs
 
+-- what begins at byte `b`, behind which `bs` stand: a blank, comment, word, name, number, symbol or fault
 unfoldable pub piece_at : ℕ → List ℕ → Piece
 piece_at b bs =
     cond (is_blank b) (Blank 0)
@@ -96,6 +112,7 @@ piece_at b bs =
     (cond (is_digit b) (number_piece (number_result (decimal_value 0 (run_of is_digit b bs))) (prefix_len is_digit bs))
     (sign_piece (sign_at signs (b ∷ bs))))))
 
+-- the token before those that were read after it; a fault stays the answer
 abbrev pub with_token : Token → Result (List Token) Fault → Result (List Token) Fault
 with_token t (Ok ts) = Ok (t ∷ ts)
 with_token t (Err f) = Err f
@@ -112,6 +129,7 @@ lexed inside p (b ∷ bs) = elim inside [
   ]
 ]
 
+-- all tokens of a text in their order, or its first fault
 abbrev pub tokens_of : List ℕ → Result (List Token) Fault
 tokens_of bytes = lexed 0 0 bytes
 

@@ -5,6 +5,7 @@ use Rattle.cyp_lex.specs.declared.token.Word.TheVariants.{Predicate, Void, Loc, 
 use Rattle.cyp_lex.specs.declared.token.Sign.{Sign}
 use Rattle.cyp_lex.specs.declared.token.Sign.TheVariants.{PointsTo, Subset, TwoStars, TwoPluses, Implies, Equal, Unequal, AtMost, AtLeast, SlashAnd, AndAnd, Same, Less, Greater, LeftParen, RightParen, LeftBrace, RightBrace, LeftBracket, RightBracket, Comma, Semicolon, Bar, Plus, Minus}
 
+-- the bytes that write a reserved word
 abbrev pub word_text : Word → List ℕ
 word_text Predicate = codes "predicate"
 word_text Void = codes "void"
@@ -22,6 +23,7 @@ word_text Malloc = codes "malloc"
 word_text Free = codes "free"
 word_text Error = codes "error"
 
+-- the bytes that write a symbol
 abbrev pub sign_text : Sign → List ℕ
 sign_text PointsTo = codes ":->"
 sign_text Subset = codes "<=i"

@@ -28,12 +28,15 @@ abbrev pub count_from : ℕ → ℕ → List ℕ
 count_from a zero = []
 count_from a (suc n) = a ∷ count_from (suc a) n
 
+-- this many integer variables, numbered from the first number on
 abbrev pub new_ints : ℕ → ℕ → List Var
 new_ints a n = map (λ j. record { sort = Int; number = j }) (count_from a n)
 
+-- this many set variables, numbered from the first number on
 abbrev pub new_sets : ℕ → ℕ → List Var
 new_sets a n = map (λ j. record { sort = Set; number = j }) (count_from a n)
 
+-- the cardinality variable with this number
 abbrev pub card_var : ℕ → Var
 card_var n = record { sort = Card; number = n }
 
@@ -43,6 +46,7 @@ int_args [] = []
 int_args (IntArg t ∷ xs) = t ∷ int_args xs
 int_args (SetArg u ∷ xs) = int_args xs
 
+-- the arguments that are set terms, in order
 abbrev pub set_args : List Arg → List SetTerm
 set_args [] = []
 set_args (IntArg t ∷ xs) = set_args xs
@@ -53,6 +57,7 @@ abbrev pub bind_ints : ℕ → List Term → List IntBind
 bind_ints a [] = []
 bind_ints a (t ∷ ts) = record { var = record { sort = Int; number = a }; to = t } ∷ bind_ints (suc a) ts
 
+-- the set variables numbered from here on to these set terms
 abbrev pub bind_sets : ℕ → List SetTerm → List SetBind
 bind_sets a [] = []
 bind_sets a (u ∷ us) = record { var = record { sort = Set; number = a }; to = u } ∷ bind_sets (suc a) us
@@ -61,6 +66,7 @@ bind_sets a (u ∷ us) = record { var = record { sort = Set; number = a }; to = 
 abbrev pub own_ints : List Arg → Clause → ℕ
 own_ints args c = c.ints - length (int_args args)
 
+-- how many set variables of the clause are its own: all but those that are parameters
 abbrev pub own_sets : List Arg → Clause → ℕ
 own_sets args c = c.sets - length (set_args args)
 
@@ -88,10 +94,12 @@ abbrev pub below_card : Option Var → List ℕ → List Lit
 below_card None ns = []
 below_card (Some a) ns = map (λ n. Lt (var_term (card_var n)) (var_term a)) ns
 
+-- how many new cardinalities are taken: one for each new instance, if the unfolded one has a cardinality
 abbrev pub cards_used : Option Var → ℕ → ℕ
 cards_used None n = 0
 cards_used (Some a) n = n
 
+-- the clause at the instance: arguments for parameters, new variables for its own, lesser cardinalities
 abbrev pub unfold_clause : InstOf → Next → Clause → Unfolded
 unfold_clause i next c =
     let by : Subst = clause_subst i.args c next in
@@ -104,6 +112,7 @@ unfold_clause i next c =
       next = record { ints = next.ints + own_ints i.args c; cards = next.cards + cards_used i.card subs; sets = next.sets + own_sets i.args c };
     }
 
+-- the clauses of the predicate, or none where there is no such predicate
 abbrev pub clauses_of : Option Pred → List Clause
 clauses_of None = []
 clauses_of (Some q) = q.clauses

@@ -23,6 +23,7 @@ mutual
     End : Body
     Then : Statement → Body → Body
 
+-- a procedure: its name's bytes, how many of the first variables are its parameters, and its body
 pub record Procedure : Type 0 where
   pub name : List ℕ
   pub params : ℕ
@@ -43,12 +44,15 @@ plain_step (Invoke p es) = Invoking p es
 plain_step (If t a b) = Choosing t (body_of a) (body_of b)
 plain_step Error = Failing
 
+-- the plain tree of the code's statement
 abbrev pub plain_stmt : Stmt → Statement
 plain_stmt s = fold-Stmt Statement plain_step s
 
+-- the plain tree of the code's procedure
 abbrev pub plain_proc : Proc → Procedure
 plain_proc p = record { name = p.name; params = p.params; body = body_of (map plain_stmt p.body) }
 
+-- the plain trees of a program's procedures in order, the main one first
 abbrev pub plain_program : Program → List Procedure
 plain_program p = map plain_proc p.procs
 

@@ -9,6 +9,7 @@ pub struct Expr {
     pub offset: i64,
 }
 
+/// How the two sides of a test are compared.
 #[derive(Clone, Copy, Debug, PartialEq, Eq, Hash)]
 pub enum TestSign {
     Equal,

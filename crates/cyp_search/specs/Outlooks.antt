@@ -8,6 +8,7 @@ use Rattle.cyp_tree.specs.declared.status.Status.TheVariants.{Open, Solved, Fail
 use Rattle.cyp_tree.specs.Live.{Waiting, least_waiting}
 use Rattle.cyp_search.specs.Branches.{Weighed}
 
+-- the waiting leaf that a live leaf of the program stands for, its weight beside its node
 abbrev pub waiting_of : {N : Type 0} → LiveLeaf N → Waiting (Weighed N)
 waiting_of leaf = record { priority = leaf.priority; number = leaf.number; node = record { weight = leaf.weight; node = leaf.node.now } }
 

@@ -22,6 +22,7 @@ pub record PlainReport (R N : Type 0) : Type 0 where
   pub nodes : ℕ
   pub depth : ℕ
 
+-- found with the derivation where there is one, and else spent
 abbrev pub found_or_spent : {R N : Type 0} → Option (Derivation R N) → PlainVerdict R N
 found_or_spent None = Spent
 found_or_spent (Some d) = Found d
@@ -36,6 +37,7 @@ ending_by Open true fits d = Some Spent
 ending_by Open false true d = None
 ending_by Open false false d = Some Spent
 
+-- the verdict where the search ends at the stage after k expansions, and nothing where it goes on from there
 abbrev pub ending : {R N : Type 0} → Moving R N → ℕ → ℕ → N → ℕ → Option (PlainVerdict R N)
 ending space budget limit root k =
     ending_by (status (stage space root k)) (k == budget) (nat_le (size (stage space root (suc k))) limit) (chosen_derivation (stage space root k))
@@ -52,6 +54,7 @@ IsReport {R} {N} space budget limit root r =
 
 -- ---- the same, computed along the stages
 
+-- the verdict by the status of the last tree: its derivation if solved, none if failed, spent if still open
 abbrev pub verdict_at : {R N : Type 0} → Status → Option (Derivation R N) → PlainVerdict R N
 verdict_at Solved d = found_or_spent d
 verdict_at Failed d = NoneFound

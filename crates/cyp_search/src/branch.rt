@@ -24,6 +24,7 @@ impl<R, N> Branch<R, N> {
     ghost use Rattle.cyp_tree.specs.Trees.{Leaf};
     ghost use Rattle.cyp_search.specs.Branches.{tree_of};
 
+    /// A node that is not grown yet, so without alternatives.
     pub fn leaf(number: u32, weight: u32, node: Shared<N>) -> Branch<R, N>
         ensures { tree_of result ≡ Leaf number record { weight = weight; node = node } }
     {

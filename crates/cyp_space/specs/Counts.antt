@@ -16,5 +16,6 @@ solved_step f = 1 + sum_of f.parts
 abbrev pub solved_count : {R N : Type 0} → Solved R N → ℕ
 solved_count {R} {N} = fold-Solved R N ℕ solved_step
 
+-- the number of nodes of several derivations together
 abbrev pub solveds_count : {R N : Type 0} → List (Solved R N) → ℕ
 solveds_count parts = sum_of (map solved_count parts)

@@ -26,6 +26,7 @@ impl<R, N> Model for Alt<R, N> {
 }
 
 impl<R, N> Alt<R, N> {
+    /// The way to solve a node by this rule at this cost, once these premises are solved.
     pub fn new(rule: R, cost: u32, premises: List<Shared<N>>) -> Alt<R, N>
         requires cheap { cost ≤ 255 }
         requires few { length premises ≤ 255 }
@@ -38,12 +39,14 @@ impl<R, N> Alt<R, N> {
         }
     }
 
+    /// The rule that is used.
     pub fn rule(&self) -> &R
         ensures { result.now ≡ self.now.rule }
     {
         &self.rule
     }
 
+    /// What the use of the rule adds to the cost of a path, at most 255.
     pub fn cost(&self) -> u32
         ensures value { result ≡ self.now.cost }
         ensures bound { result ≤ 255 }
@@ -51,6 +54,7 @@ impl<R, N> Alt<R, N> {
         self.cost
     }
 
+    /// The nodes that are left to solve, in order, at most 255.
     pub fn premises(&self) -> &[Shared<N>]
         ensures value { result.now ≡ self.now.premises }
         ensures bound { length result.now ≤ 255 }
@@ -96,6 +100,7 @@ impl<R, N> Model for Moves<R, N> {
 }
 
 impl<R, N> Moves<R, N> {
+    /// The moves of a node: these alternatives in this order, at most 48.
     pub fn new(alts: List<Alt<R, N>>) -> Moves<R, N>
         requires { length alts ≤ 48 }
         ensures { result ≡ alts }
@@ -103,6 +108,7 @@ impl<R, N> Moves<R, N> {
         Moves { alts }
     }
 
+    /// The alternatives in order, at most 48.
     pub fn alts(&self) -> &[Alt<R, N>]
         ensures value { result.now ≡ self.now }
         ensures bound { length result.now ≤ 48 }
@@ -110,6 +116,7 @@ impl<R, N> Moves<R, N> {
         self.alts.as_slice()
     }
 
+    /// Gives up the moves for their alternatives, in the same order.
     pub fn into_alts(self) -> List<Alt<R, N>>
         ensures value { result ≡ self }
         ensures bound { length result ≤ 48 }

@@ -27,6 +27,7 @@ impl Model for Settings {
 impl Settings {
     ghost use Rattle.cyp_space.specs.SettingsValue.{AreSettings};
 
+    /// The limits with these values, each within its bounds.
     pub fn new(budget: u32, unfoldings: u8, workers: u32, nodes: u32) -> Settings
         requires { AreSettings budget unfoldings workers nodes }
         ensures { result ≡ record { budget = budget; «unfold» = unfoldings; workers = workers; nodes = nodes } }
@@ -39,6 +40,7 @@ impl Settings {
         }
     }
 
+    /// The most expansions that a search may take, 1 to 100,000.
     pub fn budget(&self) -> u32
         ensures value { result ≡ self.now.budget }
         ensures least { 1 ≤ result }
@@ -47,6 +49,7 @@ impl Settings {
         self.budget
     }
 
+    /// How often a predicate may be unfolded, at most 3 times.
     pub fn unfold(&self) -> u8
         ensures value { result ≡ self.now.unfold }
         ensures most { result ≤ 3 }
@@ -54,6 +57,7 @@ impl Settings {
         self.unfold
     }
 
+    /// How many workers the search may use, 1 to 32.
     pub fn workers(&self) -> u32
         ensures value { result ≡ self.now.workers }
         ensures least { 1 ≤ result }
@@ -62,6 +66,7 @@ impl Settings {
         self.workers
     }
 
+    /// The most nodes that the tree of a search may have, 1 to 1,000,000.
     pub fn nodes(&self) -> u32
         ensures value { result ≡ self.now.nodes }
         ensures least { 1 ≤ result }

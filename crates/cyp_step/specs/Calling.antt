@@ -22,6 +22,7 @@ use Rattle.cyp_term.specs.declared.term.Var.{Var}
 use Rattle.cyp_unify.specs.Matches.{match_at}
 use Rattle.cyp_unify.specs.declared.found.Match.{Match}
 
+-- the chunk in a list of its own, or the empty list where there is no chunk
 abbrev pub chunk_or_none : Option Chunk → List Chunk
 chunk_or_none None = []
 chunk_or_none (Some c) = c ∷ []
@@ -31,10 +32,12 @@ abbrev pub chunks_at : List Chunk → List ℕ → List Chunk
 chunks_at cs [] = []
 chunks_at cs (k ∷ ks) = chunk_or_none (slice_get cs k) ++ chunks_at cs ks
 
+-- the chunks whose place is none of these, where the first chunk is at place `k`
 abbrev pub chunks_beside : ℕ → List ℕ → List Chunk → List Chunk
 chunks_beside k ks [] = []
 chunks_beside k ks (c ∷ cs) = cond (list_any (λ j. j == k) ks) (chunks_beside (suc k) ks cs) (c ∷ chunks_beside (suc k) ks cs)
 
+-- the greatest among `m` and the instances' tags
 abbrev pub greatest_tag : ℕ → List InstOf → ℕ
 greatest_tag m [] = m
 greatest_tag m (j ∷ js) = greatest_tag (max m j.tag) js
@@ -88,6 +91,7 @@ is_callable n l f =
       ]
     ]
 
+-- the node after a call of the companion by this pairing, or none where it can't be called
 abbrev pub raw_call : Node → List ℕ → Option Link → Raws
 raw_call n ks None = None
 raw_call n ks (Some l) = elim (match_at n l ks) [

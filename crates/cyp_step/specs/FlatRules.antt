@@ -20,6 +20,7 @@ use Rattle.cyp_term.specs.declared.term.Var.{Var}
 use Rattle.cyp_unify.specs.Frames.{frame_pairs}
 use Rattle.cyp_unify.specs.declared.found.Pair.{Pair}
 
+-- there is a variable, and it occurs at least twice in the chunks and literals of the goal
 abbrev pub base_occurs_twice : Goal → Option Var → Bool
 base_occurs_twice g None = false
 base_occurs_twice g (Some v) =
@@ -63,6 +64,7 @@ abbrev pub first_place : (Chunk → Bool) → ℕ → List Chunk → Option ℕ
 first_place p k [] = None
 first_place p k (c ∷ cs) = elim (p c) [ true ↦ Some k | false ↦ first_place p (suc k) cs ]
 
+-- a place was found, and it is this one
 abbrev pub is_place : ℕ → Option ℕ → Bool
 is_place i None = false
 is_place i (Some k) = i == k
@@ -86,6 +88,7 @@ raw_write n i (Some (Cell f)) (Some (Cell c)) =
     ]
 raw_write n i _ _ = None
 
+-- the chunk is a cell whose address is this very term, not just one that is shown equal
 abbrev pub is_written_at : Term → Chunk → Bool
 is_written_at t (Cell c) = term_eq t c.at
 is_written_at t _ = false
@@ -98,6 +101,7 @@ without_cells (t ∷ ts) cs = elim (first_place (is_written_at t) 0 cs) [
   | Some k ↦ without_cells ts (without cs k)
 ]
 
+-- the addresses of consecutive cells, of which the first is `j` past the term
 abbrev pub cells_from : Term → ℕ → ℕ → List Term
 cells_from t j zero = []
 cells_from t j (suc m) = plus t (pos j) ∷ cells_from t (suc j) m
@@ -115,6 +119,7 @@ raw_free n i (Some (Block b)) =
     ]
 raw_free n i _ = None
 
+-- cells with these contents at consecutive addresses, of which the first is `j` past the term
 abbrev pub new_cells : Term → ℕ → List Term → List Chunk
 new_cells t j [] = []
 new_cells t j (v ∷ vs) = Cell (record { at = plus t (pos j); content = v }) ∷ new_cells t (suc j) vs
@@ -138,6 +143,7 @@ raw_alloc n _ = None
 abbrev pub first_exist : Goal → Option Var
 first_exist g = slice_get (filter (λ v. var_in v g.exist) (lits_vars g.pure_post)) 0
 
+-- the literal by which two variables are equal: one of sets for set variables, else one of terms
 abbrev pub equal_vars : Var → Var → Lit
 equal_vars a b = cond (is_set_var a) (Same (set_var a) (set_var b)) (Eq (var_term a) (var_term b))
 

@@ -11,10 +11,12 @@ use Rattle.cyp_term.specs.declared.term.Term.{Term}
 use Rattle.cyp_unify.specs.declared.found.Match.{Match}
 use Rattle.cyp_unify.specs.declared.found.Mend.{Mend}
 
+-- the content of a cell, and none for anything else
 abbrev pub content_of : Option Chunk → Option Term
 content_of (Some (Cell c)) = Some c.content
 content_of _ = None
 
+-- the address of a cell, and none for anything else
 abbrev pub address_of : Option Chunk → Option Term
 address_of (Some (Cell c)) = Some c.at
 address_of _ = None
@@ -23,6 +25,7 @@ address_of _ = None
 abbrev pub is_needed : Goal → Mend → Bool
 is_needed g m = elim (content_of (slice_get g.pre.chunks m.cell)) [ None ↦ false | Some c ↦ not (shown g (Eq m.value c ∷ [])) ]
 
+-- the program can do the store: the address of its cell and its value are program expressions
 abbrev pub is_writable : Goal → Mend → Bool
 is_writable g m = elim (address_of (slice_get g.pre.chunks m.cell)) [ None ↦ false | Some a ↦ is_program_expr g a && is_program_expr g m.value ]
 

@@ -15,6 +15,7 @@ row n r = elim (premises n r) [
   | Some ns ↦ elim (list_any (λ (m : Node). dead m.goal) ns) [ true ↦ None | false ↦ Some (record { rule = r; premises = ns }) ]
 ]
 
+-- the rows of these rules in order, leaving out each rule that has no row
 abbrev pub rows : Node → List Rule → List Row
 rows n rs = filter_map (row n) rs
 

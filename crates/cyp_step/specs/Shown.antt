@@ -15,6 +15,7 @@ use Rattle.cyp_term.specs.declared.term.Var.{Var}
 abbrev pub shown : Goal → List Lit → Bool
 shown g ls = elim (fits (facts g) ls) [ true ↦ entailed (facts g) ls | false ↦ false ]
 
+-- there is no base, or it is a program variable
 abbrev pub is_program_base : Goal → Option Var → Bool
 is_program_base g None = true
 is_program_base g (Some v) = var_in v g.program

@@ -15,6 +15,7 @@ use Rattle.cyp_step.specs.declared.rule.Rule.TheVariants.{ByAlloc, ByCall, ByClo
 use Rattle.cyp_term.specs.Entailment.{satisfiable}
 use Rattle.cyp_unify.specs.Frames.{focus}
 
+-- what each rule leaves to do, before the normal form, or none where the rule isn't allowed
 abbrev pub raws : Node → Rule → Raws
 raws n ByInconsistent = elim (satisfiable (facts n.goal)) [ true ↦ None | false ↦ Some [] ]
 raws n ByEmp =
@@ -49,6 +50,7 @@ all_normal (n ∷ ns) = elim (wide_node n) [
 abbrev pub renamed_premises : Node → Rule → Option (List Renaming)
 renamed_premises n r = option_and_then all_normal (raws n r)
 
+-- the premises themselves, without what their program variables were called
 abbrev pub nodes_of : List Renaming → List Node
 nodes_of rs = map (λ (r : Renaming). r.node) rs
 

@@ -30,10 +30,12 @@ is_testable g (Le a b) = is_program_expr g a && is_program_expr g b
 is_testable g (Lt a b) = is_program_expr g a && is_program_expr g b
 is_testable g _ = false
 
+-- the cardinality as a term in a list, which is empty where there is none
 abbrev pub card_terms : Option Var → List Term
 card_terms None = []
 card_terms (Some c) = var_term c ∷ []
 
+-- the cardinalities of the instances among the chunks, in order
 abbrev pub cards_of : List Chunk → List Term
 cards_of cs = flat_map (λ (j : InstOf). card_terms j.card) (insts cs)
 
@@ -58,6 +60,7 @@ open_link n i j =
     let measure : List Term = last_tuple n.links ++ card_terms j.card ++ cards_of (without (pre_of n) i) in
     record { goal = n.goal; own = measure; map = identity_map n; tuple = measure }
 
+-- a clause's premise: its literals and heap replace the opened instance, and the companion is added
 abbrev pub open_premise : Node → ℕ → Link → Unfolded → Node
 open_premise n i l u =
     let m : Node = add_pre n (u.guard ∷ u.lits) (put_all (without (pre_of n) i) u.heap.chunks) in

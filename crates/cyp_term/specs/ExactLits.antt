@@ -11,15 +11,19 @@ use Rattle.cyp_term.specs.contracts.term.TermPartialEq.TheImpl.{ghosts as term_g
 use Rattle.cyp_term.specs.contracts.lit.SetTermPartialEq.TheImpl.{ghosts as set_ghosts}
 use Rattle.cyp_term.specs.contracts.lit.LitPartialEq.TheImpl.{ghosts as lit_ghosts}
 
+-- variables that are equal by `==` are the same
 pub exact_var : (x y : Var) → (var_ghosts).eq x y ≡ true → x ≡ y
 exact_var x y e = search rules
 
+-- terms that are equal by `==` have the same base and the same offset, so are the same
 pub exact_term : (x y : TermValue) → (term_ghosts).eq x y ≡ true → x ≡ y
 exact_term x y e = search rules
 
+-- set terms that are equal by `==` have the same variables and elements in the same order
 pub exact_set_term : (x y : SetTermValue) → (set_ghosts).eq x y ≡ true → x ≡ y
 exact_set_term x y e = grind (arith, exact_lists exact_var x.vars y.vars, exact_lists exact_term x.elems y.elems)
 
+-- literals that are equal by `==` are of one kind and have the same sides
 pub exact_lit : (x y : Lit) → (lit_ghosts).eq x y ≡ true → x ≡ y
 exact_lit (Eq a b) (Eq c d) e = grind (arith, exact_term a c, exact_term b d)
 exact_lit (Ne a b) (Ne c d) e = grind (arith, exact_term a c, exact_term b d)

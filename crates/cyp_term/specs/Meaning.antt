@@ -19,10 +19,12 @@ pub record Assignment : Type 0 where
 abbrev pub int_in : ℤ → List ℤ → Bool
 int_in z zs = list_any (int_eq z) zs
 
+-- the integer that the assignment gives to the variable, and 0 where there is none
 abbrev pub base_value : Assignment → Option Var → ℤ
 base_value s None = pos 0
 base_value s (Some v) = s.number v
 
+-- the integer that a term stands for: its base's value plus its offset
 abbrev pub value : Assignment → Term → ℤ
 value s t = base_value s t.base +ℤ t.offset
 
@@ -30,9 +32,11 @@ value s t = base_value s t.base +ℤ t.offset
 abbrev pub set_value : Assignment → SetTerm → List ℤ
 set_value s u = flat_map s.members u.vars ++ map (value s) u.elems
 
+-- the lists stand for the same set
 abbrev pub SameMembers : List ℤ → List ℤ → Type 0
 SameMembers xs ys = (z : ℤ) → int_in z xs ≡ int_in z ys
 
+-- each member of the first list is a member of the second
 abbrev pub IsSubset : List ℤ → List ℤ → Type 0
 IsSubset xs ys = (z : ℤ) → IsTrue (int_in z xs) → IsTrue (int_in z ys)
 
@@ -54,10 +58,12 @@ abbrev pub image_value : Assignment → Var → Option Term → ℤ
 image_value s v None = s.number v
 image_value s v (Some t) = value s t
 
+-- the set that the variable's image stands for, or the variable's own where it has no image
 abbrev pub image_members : Assignment → Var → Option SetTerm → List ℤ
 image_members s v None = s.members v
 image_members s v (Some u) = set_value s u
 
+-- the assignment that gives each variable what its image has in this one; an unbound variable keeps its own
 abbrev pub under : Subst → Assignment → Assignment
 under by s = record {
   number = λ v. image_value s v (int_image by.ints v);
@@ -68,6 +74,7 @@ under by s = record {
 abbrev pub ApplyLaw : Type 0
 ApplyLaw = (by : Subst) (s : Assignment) (l : Lit) → Truth s (apply_lit by l) ↔ Truth (under by s) l
 
+-- each of the literals is true in the assignment
 abbrev pub AllTrue : Assignment → List Lit → Type 0
 AllTrue s [] = Unit {0}
 AllTrue s (l ∷ ls) = Truth s l × AllTrue s ls

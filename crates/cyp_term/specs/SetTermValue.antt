@@ -8,6 +8,7 @@ pub record SetTermValue : Type 0 where
   pub vars : List Var
   pub elems : List TermValue
 
+-- each of the variables is of sort Set
 abbrev pub AllSets : List Var → Type 0
 AllSets [] = Unit {0}
 AllSets (v ∷ vs) = (v.sort ≡ Set) × AllSets vs

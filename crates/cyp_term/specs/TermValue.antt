@@ -14,6 +14,7 @@ IsNumber Int = Unit {0}
 IsNumber Card = Unit {0}
 IsNumber Set = ⊥
 
+-- no variable, or one that stands for an integer or a cardinality
 abbrev pub IsBase : Option Var → Type 0
 IsBase None = Unit {0}
 IsBase (Some v) = IsNumber v.sort

@@ -15,20 +15,24 @@ use Rattle.cyp_term.specs.declared.term.Var.{Var}
 
 -- ---- equality of what is written
 
+-- both are integers, both cardinalities or both sets
 abbrev pub sort_eq : Sort → Sort → Bool
 sort_eq Int Int = true
 sort_eq Card Card = true
 sort_eq Set Set = true
 sort_eq _ _ = false
 
+-- the variables have the same sort and the same number
 abbrev pub var_eq : Var → Var → Bool
 var_eq a b = sort_eq a.sort b.sort && (a.number == b.number)
 
+-- both terms have no base, or both have the same variable as base
 abbrev pub base_eq : Option Var → Option Var → Bool
 base_eq None None = true
 base_eq (Some a) (Some b) = var_eq a b
 base_eq _ _ = false
 
+-- the terms have the same base and the same offset
 abbrev pub term_eq : Term → Term → Bool
 term_eq a b = base_eq a.base b.base && int_eq a.offset b.offset
 
@@ -38,9 +42,11 @@ lists_eq eq [] [] = true
 lists_eq eq (x ∷ xs) (y ∷ ys) = eq x y && lists_eq eq xs ys
 lists_eq eq _ _ = false
 
+-- the set terms have the same variables and the same elements, in the same order
 abbrev pub set_eq : SetTerm → SetTerm → Bool
 set_eq a b = lists_eq var_eq a.vars b.vars && lists_eq term_eq a.elems b.elems
 
+-- the literals are of the same kind and have equal sides, left to left and right to right
 abbrev pub lit_eq : Lit → Lit → Bool
 lit_eq (Eq a b) (Eq c d) = term_eq a c && term_eq b d
 lit_eq (Ne a b) (Ne c d) = term_eq a c && term_eq b d
@@ -71,9 +77,11 @@ without_repeats eq xs = with_all_new eq [] xs
 
 -- ---- short forms
 
+-- the term that is the variable alone
 abbrev pub var_term : Var → Term
 var_term v = record { base = Some v; offset = pos 0 }
 
+-- the term that is a constant
 abbrev pub number_term : ℤ → Term
 number_term n = record { base = None; offset = n }
 
@@ -81,9 +89,11 @@ number_term n = record { base = None; offset = n }
 abbrev pub plus : Term → ℤ → Term
 plus t n = record { base = t.base; offset = t.offset +ℤ n }
 
+-- the set term that is the variable alone
 abbrev pub set_var : Var → SetTerm
 set_var v = record { vars = v ∷ []; elems = [] }
 
+-- the base variable, if there is one, as a list
 abbrev pub base_vars : Option Var → List Var
 base_vars None = []
 base_vars (Some v) = v ∷ []
@@ -92,9 +102,11 @@ base_vars (Some v) = v ∷ []
 abbrev pub term_vars : Term → List Var
 term_vars t = base_vars t.base
 
+-- the variables of a union, then those of its elements, with repeats
 abbrev pub set_vars : SetTerm → List Var
 set_vars u = u.vars ++ flat_map (λ t. term_vars t) u.elems
 
+-- the variables of the left side, then those of the right side, with repeats
 abbrev pub lit_vars : Lit → List Var
 lit_vars (Eq a b) = term_vars a ++ term_vars b
 lit_vars (Ne a b) = term_vars a ++ term_vars b
@@ -107,6 +119,7 @@ lit_vars (NotMember a b) = term_vars a ++ set_vars b
 lit_vars (Sub a b) = set_vars a ++ set_vars b
 lit_vars (NotSub a b) = set_vars a ++ set_vars b
 
+-- the variables of all the literals in their order, with repeats
 abbrev pub lits_vars : List Lit → List Var
 lits_vars ls = flat_map lit_vars ls
 
@@ -120,6 +133,7 @@ lit_elements (Sub a b) = a.elems ++ b.elems
 lit_elements (NotSub a b) = a.elems ++ b.elems
 lit_elements _ = []
 
+-- the variable stands for a set
 abbrev pub is_set_var : Var → Bool
 is_set_var v = sort_eq v.sort Set
 
@@ -129,6 +143,7 @@ var_in v vs = list_any (var_eq v) vs
 
 -- ---- negation
 
+-- the literal that is true where this one is false; the negation of `a <= b` is `b < a`
 abbrev pub negated : Lit → Lit
 negated (Eq a b) = Ne a b
 negated (Ne a b) = Eq a b
@@ -148,6 +163,7 @@ abbrev pub int_image : List IntBind → Var → Option Term
 int_image [] v = None
 int_image (b ∷ bs) v = cond (var_eq b.var v) (Some b.to) (int_image bs v)
 
+-- the first image of the set variable, and nothing where it is unbound
 abbrev pub set_image : List SetBind → Var → Option SetTerm
 set_image [] v = None
 set_image (b ∷ bs) v = cond (var_eq b.var v) (Some b.to) (set_image bs v)
@@ -157,10 +173,12 @@ abbrev pub term_at : Term → Option Term → Term
 term_at t None = t
 term_at t (Some to) = plus to t.offset
 
+-- the image of the term with this base; a term without a base is a constant and stays
 abbrev pub term_base : Subst → Term → Option Var → Term
 term_base by t None = t
 term_base by t (Some v) = term_at t (int_image by.ints v)
 
+-- the term with its base replaced by the base's image, and the offset added to that
 abbrev pub apply_term : Subst → Term → Term
 apply_term by t = term_base by t t.base
 
@@ -178,6 +196,7 @@ apply_set by u =
       elems = without_repeats term_eq (flat_map (λ (i : SetTerm). i.elems) images ++ map (apply_term by) u.elems);
     }
 
+-- the literal with the substitution applied to both sides
 abbrev pub apply_lit : Subst → Lit → Lit
 apply_lit by (Eq a b) = Eq (apply_term by a) (apply_term by b)
 apply_lit by (Ne a b) = Ne (apply_term by a) (apply_term by b)
@@ -195,21 +214,26 @@ abbrev pub base_or : Var → Option Var → Var
 base_or v None = v
 base_or v (Some w) = w
 
+-- the base of the image; the variable itself where it is unbound or the image is a constant
 abbrev pub var_at : Var → Option Term → Var
 var_at v None = v
 var_at v (Some to) = base_or v to.base
 
+-- the variable that stands for this one after the substitution
 abbrev pub apply_var : Subst → Var → Var
 apply_var by v = var_at v (int_image by.ints v)
 
 -- ---- offsets past 2 ^ 32
 
+-- the offset is more than 2 ^ 32 in size
 abbrev pub wide_term : Term → Bool
 wide_term t = not (nat_le (nat_abs t.offset) 4294967296)
 
+-- some element has an offset of more than 2 ^ 32 in size
 abbrev pub wide_set : SetTerm → Bool
 wide_set u = list_any wide_term u.elems
 
+-- some term of the literal has an offset of more than 2 ^ 32 in size
 abbrev pub wide_lit : Lit → Bool
 wide_lit (Eq a b) = wide_term a || wide_term b
 wide_lit (Ne a b) = wide_term a || wide_term b

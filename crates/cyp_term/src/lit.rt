@@ -27,6 +27,7 @@ impl Model for SetTerm {
     ghost inverse = { λ t. record { vars = t.vars; elems = t.elems } };
 }
 
+/// A comparison of two integers or two sets, a membership or an inclusion, or the negation of one.
 #[derive(Debug, Drop, PartialEq, Eq, Hash)]
 pub enum Lit {
     Eq(Term, Term),
@@ -42,6 +43,7 @@ pub enum Lit {
 }
 
 impl Lit {
+    /// The literal that is true where this one is false.
     pub fn negated(self) -> Lit
         ensures { result ≡ negated self }
     {

@@ -24,12 +24,14 @@ impl<T> Model for Roomy<T> {
 }
 
 impl<T> Roomy<T> {
+    /// The vector's items, with the room that it has.
     pub fn from_vec(items: Vec<T>) -> Roomy<T>
         ensures { result.items ≡ items.items }
     {
         Roomy { items }
     }
 
+    /// The items as a list, whose room contracts no longer see.
     pub fn into_list(self) -> List<T>
         ensures { result ≡ self.items }
     {
@@ -37,12 +39,14 @@ impl<T> Roomy<T> {
         List::from_vec(items)
     }
 
+    /// The items, borrowed in their order.
     pub fn as_slice(&self) -> &[T]
         ensures { result.now ≡ self.now.items }
     {
         self.items.as_slice()
     }
 
+    /// Makes room for at least so many more items. Room that was there stays.
     pub fn reserve(&mut self, _alloc: Global, more: usize) -> Result<(), NoMemory>
         ensures items { self.new.items ≡ self.old.items }
         ensures ok { OnOk result (more ≤ self.new.spare) }
@@ -52,6 +56,7 @@ impl<T> Roomy<T> {
         Ok(())
     }
 
+    /// Takes an item out and closes up. Room that was there stays.
     pub fn remove(&mut self, place: usize) -> T
         requires { place < length self.old.items }
         ensures item { slice_get self.old.items place ≡ Some result }
@@ -63,6 +68,7 @@ impl<T> Roomy<T> {
 }
 
 impl<T: Drop> Roomy<T> {
+    /// Inserts an item before the one at the place, or at the end. It takes no memory, only room.
     pub fn put(&mut self, place: usize, item: T)
         requires within { place ≤ length self.old.items }
         requires room { 0 < self.old.spare }
@@ -72,6 +78,7 @@ impl<T: Drop> Roomy<T> {
         self.items.insert(place, item).unwrap();
     }
 
+    /// Adds an item at the end. Where memory runs out, the items stay as they were.
     pub fn push(&mut self, alloc: Global, item: T) -> Result<(), NoMemory>
         ensures ok { OnOk result (self.new.items ≡ self.old.items ++ item ∷ []) }
         ensures err { OnErr result (self.new.items ≡ self.old.items) }

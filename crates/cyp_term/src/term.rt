@@ -49,6 +49,7 @@ impl Model for Term {
 }
 
 impl Term {
+    /// The sum of the base and the offset; without a base, the constant.
     pub fn new(base: Option<Var>, offset: i64) -> Term
         requires { IsTerm base offset }
         ensures { result ≡ record { base = base; offset = offset } }
@@ -56,12 +57,14 @@ impl Term {
         Term { base, offset }
     }
 
+    /// The variable of the term, or `None` where the term is a constant.
     pub fn base(&self) -> Option<Var>
         ensures { result ≡ self.now.base }
     {
         self.base
     }
 
+    /// The number that the term adds to its variable, or the constant itself.
     pub fn offset(&self) -> i64
         ensures { result ≡ self.now.offset }
     {

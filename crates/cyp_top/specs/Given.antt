@@ -9,6 +9,7 @@ use Rattle.cyp_top.specs.declared.answer.Answer.TheVariants as answers
 use Rattle.cyp_top.specs.declared.status.Status.TheVariants.{NoProgram, Program, Spent}
 use Rattle.cyp_top.specs.Output.{Output, line, not_built, output}
 
+-- a program's text, or a line that says why there is none, with the status that goes with it
 abbrev pub plain_answer : Answer → Output
 plain_answer (answers.Program text) = output text Program
 plain_answer answers.NoProgram = output (line (codes "no program")) NoProgram

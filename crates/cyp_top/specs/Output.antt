@@ -19,6 +19,7 @@ pub record Output : Type 0 where
   pub text : List ℕ
   pub status : Status
 
+-- these bytes with this status
 abbrev pub output : List ℕ → Status → Output
 output text status = record { text = text; status = status }
 
@@ -48,14 +49,17 @@ verdict_output name (Found d) = output (program_text (program_of name d)) Progra
 verdict_output name NoneFound = output (line (codes "no program")) NoProgram
 verdict_output name BudgetSpent = output (line (codes "budget spent")) Spent
 
+-- what the search of this text comes to, where a program that is found has the text's name
 abbrev pub synth_output : FlatText → Output
 synth_output t = verdict_output t.name (search_report t).verdict
 
 -- ---- the output
 
+-- the line that refuses a text that isn't a flat text within the limits
 abbrev pub not_built : Output
 not_built = output (line (codes "refused: NotBuilt at 0")) Refused
 
+-- the line that refuses words other than `synth`
 abbrev pub words_refused : Output
 words_refused = output (line (codes "words refused")) Usage
 
@@ -69,6 +73,7 @@ IsSynthOutput bytes o =
     ((t : FlatText) × IsTaken bytes t × (o ≡ synth_output t))
     ⊎ (((t : FlatText) → IsTaken bytes t → ⊥) × (o ≡ not_built))
 
+-- what the bytes give where the words are `synth`, else the refusal of the words
 abbrev pub IsOutputBy : Bool → List ℕ → Output → Type 0
 IsOutputBy false bytes o = o ≡ words_refused
 IsOutputBy true bytes o = IsSynthOutput bytes o

@@ -15,6 +15,7 @@ openable limit k [] = []
 openable limit k (Inst i ∷ cs) = cond (nat_lt i.tag limit) (k ∷ openable limit (suc k) cs) (openable limit (suc k) cs)
 openable limit k (c ∷ cs) = openable limit (suc k) cs
 
+-- the rows that unfold an instance of the precondition whose tag is below the limit
 abbrev pub open_rows : Node → ℕ → List Row
 open_rows n limit = rows n (map ByOpen (openable limit 0 n.goal.pre.chunks))
 
@@ -23,5 +24,6 @@ abbrev pub closable : Node → ℕ → Option Chunk → List ℕ
 closable n limit (Some (Inst i)) = cond (nat_lt i.tag limit) (count_from 0 (length (clauses_of (slice_get n.preds.list i.pred)))) []
 closable n limit _ = []
 
+-- the rows that fold the focus by one of its clauses, where its tag is below the limit
 abbrev pub close_rows : Node → ℕ → List Row
 close_rows n limit = rows n (map ByClose (closable n limit (focus n.goal)))

@@ -16,11 +16,13 @@ alike (Block b) (Block c) = b.size == c.size
 alike (Cell b) (Cell c) = true
 alike _ _ = false
 
+-- that two arguments of one sort are equal; nothing where their sorts differ
 abbrev pub arg_equality : Arg → Arg → List Lit
 arg_equality (IntArg t) (IntArg r) = Eq t r ∷ []
 arg_equality (SetArg u) (SetArg r) = Same u r ∷ []
 arg_equality _ _ = []
 
+-- that the arguments at equal places are equal, in order
 abbrev pub arg_equalities : List Arg → List Arg → List Lit
 arg_equalities (a ∷ xs) (b ∷ ys) = arg_equality a b ++ arg_equalities xs ys
 arg_equalities _ _ = []

@@ -30,15 +30,18 @@ pub data Position : Type 0 where
   Content : ℕ → Term → Term → Position
   OfSet : SetTerm → SetTerm → Position
 
+-- the position where two arguments of one sort meet; none where their sorts differ
 abbrev pub arg_position : Arg → Arg → List Position
 arg_position (IntArg t) (IntArg r) = Plain t r ∷ []
 arg_position (SetArg u) (SetArg r) = OfSet u r ∷ []
 arg_position _ _ = []
 
+-- the positions of the arguments at equal places, in order
 abbrev pub arg_positions : List Arg → List Arg → List Position
 arg_positions (a ∷ xs) (b ∷ ys) = arg_position a b ++ arg_positions xs ys
 arg_positions _ _ = []
 
+-- the position where the two cardinalities meet, if both chunks have one
 abbrev pub card_position : Option Var → Option Var → List Position
 card_position (Some c) (Some d) = Plain (var_term c) (var_term d) ∷ []
 card_position _ _ = []
@@ -57,9 +60,11 @@ pub record Walk : Type 0 where
   pub late : List (SetTerm × SetTerm)
   pub mends : List Mend
 
+-- the bindings and, behind them, this term for this integer variable
 abbrev pub add_int : Subst → Var → Term → Subst
 add_int by v t = record { ints = by.ints ++ record { var = v; to = t } ∷ []; sets = by.sets }
 
+-- the bindings and, behind them, this set term for this set variable
 abbrev pub add_set : Subst → Var → SetTerm → Subst
 add_set by v u = record { ints = by.ints; sets = by.sets ++ record { var = v; to = u } ∷ [] }
 
@@ -75,6 +80,7 @@ abbrev pub lone_of_parts : List Var → List Term → Option Var
 lone_of_parts (v ∷ []) [] = Some v
 lone_of_parts _ _ = None
 
+-- the variable that is the whole set term, if it is one
 abbrev pub lone_var : SetTerm → Option Var
 lone_var u = lone_of_parts u.vars u.elems
 
@@ -84,9 +90,11 @@ parts_wait [] [] = false
 parts_wait (v ∷ []) [] = false
 parts_wait _ _ = true
 
+-- the set term is neither empty nor one variable: its equality waits until all is bound
 abbrev pub waits : SetTerm → Bool
 waits u = parts_wait u.vars u.elems
 
+-- an equality of set terms, which waits, or is needed at once under the bindings so far
 abbrev pub set_step : Walk → SetTerm → SetTerm → Bool → Walk
 set_step w u r true = record w { late = w.late ++ (u, r) ∷ [] }
 set_step w u r false = record w { need = w.need ++ Same (apply_set w.by u) r ∷ [] }
@@ -109,10 +117,12 @@ walk_step exist w (OfSet u r) = elim (lone_var u) [
   ]
 ]
 
+-- what is found when the walk goes on over these positions in order
 abbrev pub walk : List Var → Walk → List Position → Walk
 walk exist w [] = w
 walk exist w (p ∷ ps) = walk exist (walk_step exist w p) ps
 
+-- what has been found before the first position: nothing
 abbrev pub no_walk : Walk
 no_walk = record { by = record { ints = []; sets = [] }; need = []; late = []; mends = [] }
 
@@ -123,6 +133,7 @@ bound_by_map m by v = elim (is_set_var v) [
   | true ↦ elim (is_some (set_image by.sets v)) [ true ↦ Some by | false ↦ option_map (add_set by v) (set_image m.sets v) ]
 ]
 
+-- each of these variables is bound, where need be by the map; none where one has no image there either
 abbrev pub all_bound : Subst → Subst → List Var → Option Subst
 all_bound m by [] = Some by
 all_bound m by (v ∷ vs) = option_and_then (λ (b : Subst). all_bound m b vs) (bound_by_map m by v)
@@ -143,6 +154,7 @@ pair_positions present (c ∷ cs) (k ∷ ks) = elim (slice_get present k) [
 ]
 pair_positions present _ _ = None
 
+-- the match of a finished walk; none where a variable stays unbound or an offset passes 2 ^ 32
 abbrev pub finish_match : Link → List ℕ → Walk → Option Match
 finish_match l ks w = option_and_then (λ (by : Subst).
     let need : List Lit = w.need ++ map (λ (p : SetTerm × SetTerm). Same (apply_set by p.0) p.1) w.late in
