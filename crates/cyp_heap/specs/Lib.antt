@@ -3,3 +3,4 @@ pub mod Chunks
 pub mod Goals
 pub mod Limits
 pub mod Formed
+pub mod Stores

@@ -89,7 +89,7 @@ decimal_value n (c ∷ cs) = decimal_value (10 * n + (c - 48)) cs
 abbrev pub number_result : ℕ → Option ℕ
 number_result n = cond (nat_le n greatest) (Some n) None
 
--- what begins at a byte, which has so many bytes more: no token, a token, or a fault
+-- the token of a number with so many digits behind its first, or the fault that it is too great
 abbrev pub number_piece : Option ℕ → ℕ → Piece
 number_piece None more = Bad NumberRange
 number_piece (Some n) more = Begun (kinds.Number n) more

@@ -53,7 +53,7 @@ Truth s (NotMember a b) = ¬ (IsTrue (int_in (value s a) (set_value s b)))
 Truth s (Sub a b) = IsSubset (set_value s a) (set_value s b)
 Truth s (NotSub a b) = ¬ (IsSubset (set_value s a) (set_value s b))
 
--- the assignment in which each variable has the value of its image
+-- the value of the variable's image, or the variable's own where it has no image
 abbrev pub image_value : Assignment → Var → Option Term → ℤ
 image_value s v None = s.number v
 image_value s v (Some t) = value s t

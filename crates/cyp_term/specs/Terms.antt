@@ -209,7 +209,7 @@ apply_lit by (NotMember a b) = NotMember (apply_term by a) (apply_set by b)
 apply_lit by (Sub a b) = Sub (apply_set by a) (apply_set by b)
 apply_lit by (NotSub a b) = NotSub (apply_set by a) (apply_set by b)
 
--- a variable that stands for a cardinality; its image is a bare variable
+-- the base where there is one, and else the variable
 abbrev pub base_or : Var → Option Var → Var
 base_or v None = v
 base_or v (Some w) = w
