@@ -3,7 +3,7 @@ use Rattle.std.specs.Prelude.{ℕ, List, codes}
 use Rattle.cyp_lex.specs.declared.token.Word.{Word}
 use Rattle.cyp_lex.specs.declared.token.Word.TheVariants.{Predicate, Void, Loc, Int, Set, Emp, True, Not, In, If, Else, Let, Malloc, Free, Error}
 use Rattle.cyp_lex.specs.declared.token.Sign.{Sign}
-use Rattle.cyp_lex.specs.declared.token.Sign.TheVariants.{PointsTo, Subset, TwoStars, TwoPluses, Implies, Equal, Unequal, AtMost, AtLeast, SlashAnd, AndAnd, Same, Less, Greater, LeftParen, RightParen, LeftBrace, RightBrace, LeftBracket, RightBracket, Comma, Semicolon, Bar, Plus, Minus}
+use Rattle.cyp_lex.specs.declared.token.Sign.TheVariants.{PointsTo, Subset, TwoStars, TwoPluses, Implies, Equal, Unequal, AtMost, AtLeast, SlashAnd, AndAnd, Same, Less, Greater, LeftParen, RightParen, LeftBrace, RightBrace, LeftBracket, RightBracket, Comma, Semicolon, Bar, Plus, Minus, Star, Assign}
 
 -- the bytes that write a reserved word
 abbrev pub word_text : Word → List ℕ
@@ -50,3 +50,5 @@ sign_text Semicolon = codes ";"
 sign_text Bar = codes "|"
 sign_text Plus = codes "+"
 sign_text Minus = codes "-"
+sign_text Star = codes "*"
+sign_text Assign = codes "="

@@ -22,6 +22,7 @@ pub enum Word {
 }
 
 /// A symbol: `PointsTo` is `:->`, `Subset` is `<=i`, `Same` is `=i`, `SlashAnd` is `/\`.
+/// `Star` and `Assign`, which are `*` and `=`, are symbols of programs alone.
 #[derive(Clone, Copy, Debug, PartialEq, Eq, Hash)]
 pub enum Sign {
     PointsTo,
@@ -49,6 +50,8 @@ pub enum Sign {
     Bar,
     Plus,
     Minus,
+    Star,
+    Assign,
 }
 
 /// A name's text is that from `start` to `end`. A number is at most 2147483648.
@@ -124,6 +127,8 @@ impl Sign {
             Sign::Bar => b"|",
             Sign::Plus => b"+",
             Sign::Minus => b"-",
+            Sign::Star => b"*",
+            Sign::Assign => b"=",
         }
     }
 }

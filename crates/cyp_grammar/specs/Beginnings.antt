@@ -1,0 +1,16 @@
+-- Beginnings of texts of a grammar, and the first lexeme that none of them allows.
+use Rattle.std.specs.Prelude.{List, [], ◌++◌, ◌∷◌}
+use Rattle.cyp_grammar.specs.Lexemes.{Lexeme}
+use Rattle.cyp_grammar.specs.Spelling.{Mark, Match}
+
+-- some tree's spelling begins so
+abbrev pub Begins : {A : Type 0} → (A → List Mark) → List Lexeme → Type 0
+Begins {A} spell ls = (tree : A) × (rest : List Lexeme) × Match (spell tree) (ls ++ rest)
+
+-- up to here some tree's spelling begins so, and with this lexeme none does
+abbrev pub IsRefusedAt : {A : Type 0} → (A → List Mark) → List Lexeme → Lexeme → Type 0
+IsRefusedAt spell before l = Begins spell before × (Begins spell (before ++ l ∷ []) → ⊥)
+
+-- some tree's spelling begins so, and none ends here
+abbrev pub IsUnfinished : {A : Type 0} → (A → List Mark) → List Lexeme → Type 0
+IsUnfinished {A} spell ls = Begins spell ls × ((tree : A) → Match (spell tree) ls → ⊥)

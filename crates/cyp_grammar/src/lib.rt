@@ -1,0 +1,2 @@
+//! Grammars as relations between texts and trees: definitions.
+#![tactic(auto)]

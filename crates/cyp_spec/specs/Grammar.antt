@@ -1,0 +1,127 @@
+-- The grammar of specifications: which lexemes spell a tree.
+--
+--     text   = { pred } proc
+--     pred   = "predicate" NAME "(" [ params ] ")" "{" clause { clause } "}"
+--     params = param { "," param }
+--     param  = ( "loc" | "int" | "set" ) NAME
+--     clause = "|" lit "=>" "{" body "}"
+--     proc   = "void" NAME "(" [ params ] ")" "{" body "}" "{" body "}"
+--     body   = [ item { ( "/\" | "&&" ) item } ";" ] heap
+--     item   = "true" | lit
+--     heap   = "emp" | chunk { "**" chunk }
+--     chunk  = NAME ":->" int | "(" int ")" ":->" int
+--            | "[" int "," NUMBER "]" | NAME "(" [ arg { "," arg } ] ")"
+--     arg    = int | set
+--     lit    = int ( "==" | "!=" | "<=" | "<" | ">=" | ">" ) int
+--            | set ( "=i" | "<=i" ) set | int "in" set | "not" "(" lit ")"
+--     int    = NUMBER | "-" NUMBER | NAME | NAME ( "+" | "-" ) NUMBER | NUMBER "+" NAME
+--     set    = part { "++" part }
+--     part   = NAME | "{" [ int { "," int } ] "}"
+use Rattle.std.specs.Prelude.{List, [], ◌++◌, ◌∷◌, ℕ}
+use Rattle.cyp_lex.specs.declared.token.Sign.{Sign}
+use Rattle.cyp_lex.specs.declared.token.Sign.TheVariants.{AndAnd, AtLeast, AtMost, Bar, Comma, Equal, Greater, Implies, LeftBrace, LeftBracket, LeftParen, Less, Minus, Plus, PointsTo, RightBrace, RightBracket, RightParen, Same, Semicolon, SlashAnd, Subset, TwoPluses, TwoStars, Unequal}
+use Rattle.cyp_lex.specs.declared.token.Word.{Word}
+use Rattle.cyp_lex.specs.declared.token.Word.TheVariants.{Emp, In, Int, Loc, Not, Predicate, Set, True, Void}
+use Rattle.cyp_grammar.specs.Lexemes.{Number, Reserved, Symbol}
+use Rattle.cyp_grammar.specs.Spelling.{Any, At, Mark, all_spelling, ident, list_spelling, separated, sign, word}
+use Rattle.cyp_spec.specs.Trees.{Ampersands, ArgTree, BlockOf, BodyTree, Braces, BracesArg, ChunkTree, ClauseTree, Comparing, Comparison, Conjunction, Inside, InstanceOf, IntSort, IntTree, IsAbove, IsAtLeast, IsAtMost, IsBelow, IsEqual, IsUnequal, ItemTree, Items, LitItem, LitTree, LocSort, MinusNum, NameMinus, NamePlus, Named, NamedCell, Negation, NoItems, Num, NumPlus, ParamTree, PartName, PartTree, PredTree, PureTree, SameSets, SetSort, SetTree, Slashes, SortTree, SubSets, TermArg, TermCell, TextTree, TrueItem, UnionArg}
+
+abbrev pub int_spelling : IntTree → List Mark
+int_spelling (Num p n) = At (Number n) p ∷ []
+int_spelling (MinusNum p n) = At (Symbol Minus) p ∷ Any (Number n) ∷ []
+int_spelling (Named i) = ident i ∷ []
+int_spelling (NamePlus i n) = ident i ∷ sign Plus ∷ Any (Number n) ∷ []
+int_spelling (NameMinus i n) = ident i ∷ sign Minus ∷ Any (Number n) ∷ []
+int_spelling (NumPlus p n i) = At (Number n) p ∷ sign Plus ∷ ident i ∷ []
+
+-- terms in braces
+abbrev pub braces_spelling : ℕ → List IntTree → List Mark
+braces_spelling p ts = At (Symbol LeftBrace) p ∷ (separated (Symbol Comma) int_spelling ts ++ sign RightBrace ∷ [])
+
+abbrev pub part_spelling : PartTree → List Mark
+part_spelling (PartName i) = ident i ∷ []
+part_spelling (Braces p ts) = braces_spelling p ts
+
+-- the parts with `++` between each two
+abbrev pub parts_spelling : PartTree → List PartTree → List Mark
+parts_spelling u us = list_spelling (Symbol TwoPluses) part_spelling u us
+
+abbrev pub set_spelling : SetTree → List Mark
+set_spelling u = parts_spelling u.first u.others
+
+abbrev pub comparison_sign : Comparison → Sign
+comparison_sign IsEqual = Equal
+comparison_sign IsUnequal = Unequal
+comparison_sign IsAtMost = AtMost
+comparison_sign IsBelow = Less
+comparison_sign IsAtLeast = AtLeast
+comparison_sign IsAbove = Greater
+
+abbrev pub lit_spelling : LitTree → List Mark
+lit_spelling (Comparing a c b) = int_spelling a ++ (sign (comparison_sign c) ∷ int_spelling b)
+lit_spelling (SameSets a b) = set_spelling a ++ (sign Same ∷ set_spelling b)
+lit_spelling (SubSets a b) = set_spelling a ++ (sign Subset ∷ set_spelling b)
+lit_spelling (Inside a b) = int_spelling a ++ (word In ∷ set_spelling b)
+lit_spelling (Negation p l) = At (Reserved Not) p ∷ sign LeftParen ∷ (lit_spelling l ++ sign RightParen ∷ [])
+
+abbrev pub item_spelling : ItemTree → List Mark
+item_spelling TrueItem = word True ∷ []
+item_spelling (LitItem l) = lit_spelling l
+
+abbrev pub conjunction_sign : Conjunction → Sign
+conjunction_sign Slashes = SlashAnd
+conjunction_sign Ampersands = AndAnd
+
+-- an item behind its conjunction
+abbrev pub later_item : Conjunction × ItemTree → List Mark
+later_item p = sign (conjunction_sign p.0) ∷ item_spelling p.1
+
+-- a semicolon ends the items
+abbrev pub pure_spelling : PureTree → List Mark
+pure_spelling NoItems = []
+pure_spelling (Items i is) = item_spelling i ++ (all_spelling later_item is ++ sign Semicolon ∷ [])
+
+abbrev pub arg_spelling : ArgTree → List Mark
+arg_spelling (TermArg t) = int_spelling t
+arg_spelling (BracesArg p ts us) = parts_spelling (Braces p ts) us
+arg_spelling (UnionArg i u us) = ident i ∷ sign TwoPluses ∷ parts_spelling u us
+
+abbrev pub chunk_spelling : ChunkTree → List Mark
+chunk_spelling (NamedCell i t) = ident i ∷ sign PointsTo ∷ int_spelling t
+chunk_spelling (TermCell a t) = sign LeftParen ∷ (int_spelling a ++ (sign RightParen ∷ sign PointsTo ∷ int_spelling t))
+chunk_spelling (BlockOf a p n) = sign LeftBracket ∷ (int_spelling a ++ (sign Comma ∷ At (Number n) p ∷ sign RightBracket ∷ []))
+chunk_spelling (InstanceOf i xs) = ident i ∷ sign LeftParen ∷ (separated (Symbol Comma) arg_spelling xs ++ sign RightParen ∷ [])
+
+-- `emp` stands for no chunk
+abbrev pub heap_spelling : List ChunkTree → List Mark
+heap_spelling [] = word Emp ∷ []
+heap_spelling (c ∷ cs) = list_spelling (Symbol TwoStars) chunk_spelling c cs
+
+abbrev pub body_spelling : BodyTree → List Mark
+body_spelling b = pure_spelling b.pure ++ heap_spelling b.chunks
+
+abbrev pub in_braces : BodyTree → List Mark
+in_braces b = sign LeftBrace ∷ (body_spelling b ++ sign RightBrace ∷ [])
+
+abbrev pub sort_word : SortTree → Word
+sort_word LocSort = Loc
+sort_word IntSort = Int
+sort_word SetSort = Set
+
+abbrev pub param_spelling : ParamTree → List Mark
+param_spelling p = At (Reserved (sort_word p.sort)) p.place ∷ ident p.name ∷ []
+
+abbrev pub params_spelling : List ParamTree → List Mark
+params_spelling ps = sign LeftParen ∷ (separated (Symbol Comma) param_spelling ps ++ sign RightParen ∷ [])
+
+abbrev pub clause_spelling : ClauseTree → List Mark
+clause_spelling c = At (Symbol Bar) c.place ∷ (lit_spelling c.guard ++ (sign Implies ∷ in_braces c.body))
+
+abbrev pub pred_spelling : PredTree → List Mark
+pred_spelling q =
+    word Predicate ∷ ident q.name
+    ∷ (params_spelling q.params ++ (sign LeftBrace ∷ (clause_spelling q.first ++ (all_spelling clause_spelling q.others ++ sign RightBrace ∷ []))))
+
+abbrev pub text_spelling : TextTree → List Mark
+text_spelling t =
+    all_spelling pred_spelling t.preds ++ (word Void ∷ ident t.name ∷ (params_spelling t.params ++ (in_braces t.pre ++ in_braces t.post)))

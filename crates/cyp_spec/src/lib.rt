@@ -1,0 +1,2 @@
+//! Specifications as texts: their grammar, what they say, and their faults.
+#![tactic(auto)]
