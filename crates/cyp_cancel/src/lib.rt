@@ -1,0 +1,2 @@
+//! The words by which workers are told to stop.
+#![tactic(auto)]

@@ -1,0 +1,2 @@
+//! The machine of a crew: claims, publications, commits and journals.
+#![tactic(auto)]

@@ -1,0 +1,2 @@
+//! Runs of programs.
+#![tactic(auto)]
