@@ -7,3 +7,4 @@ pub mod Stores
 pub mod Instances
 pub mod Assertions
 pub mod PredsFormed
+pub mod Laws

@@ -1,0 +1,42 @@
+-- Laws of instances: their heights, their bounds, and sets as arguments.
+use Rattle.std.specs.Prelude.{Some, List, [], ◌<◌, ◌≡◌, ◌≤◌, ◌↔◌, slice_get, ◌∷◌, ℕ}
+use Rattle.cyp_heap.specs.Assertions.{SideHolds}
+use Rattle.cyp_heap.specs.Instances.{ArgValue, HoldsBelow, InstanceHolds, Members, Number}
+use Rattle.cyp_heap.specs.PredsFormed.{IsFormedPreds}
+use Rattle.cyp_heap.specs.Stores.{Store, cell_count}
+use Rattle.cyp_heap.specs.declared.chunk.Chunk.{Chunk}
+use Rattle.cyp_heap.specs.declared.pred.Preds.{Preds}
+use Rattle.cyp_term.specs.Meaning.{Assignment, SameMembers}
+use Rattle.cyp_term.specs.declared.lit.Lit.{Lit}
+
+-- an instance's height is at most the number of cells of its heap
+abbrev pub HeightLaw : Type 0
+HeightLaw = (preds : Preds) → IsFormedPreds preds → (p : ℕ) (args : List ArgValue) (h : Store) (n : ℕ) → InstanceHolds preds p args h n → n ≤ cell_count h
+
+-- each of the numbers with which a side of a goal holds is at most the number of cells of the heap
+abbrev pub SideHeightsLaw : Type 0
+SideHeightsLaw =
+    (preds : Preds) → IsFormedPreds preds → (s : Assignment) (lits : List Lit) (chunks : List Chunk) (h : Store) (ns : List ℕ) → SideHolds preds s lits chunks h ns
+    → (k n : ℕ) → slice_get ns k ≡ Some n → n ≤ cell_count h
+
+-- a number is the same, a set has the same members
+abbrev pub SameArgValue : ArgValue → ArgValue → Type 0
+SameArgValue (Number x) (Number y) = x ≡ y
+SameArgValue (Members xs) (Members ys) = SameMembers xs ys
+SameArgValue _ _ = ⊥
+
+-- there are as many of both, and they are the same at each place
+abbrev pub SameArgValues : List ArgValue → List ArgValue → Type 0
+SameArgValues [] [] = Unit {0}
+SameArgValues (x ∷ xs) (y ∷ ys) = SameArgValue x y × SameArgValues xs ys
+SameArgValues _ _ = ⊥
+
+-- what an instance means doesn't depend on how its set arguments are listed
+abbrev pub ListingLaw : Type 0
+ListingLaw =
+    (preds : Preds) (p : ℕ) (xs ys : List ArgValue) (h : Store) (n : ℕ) → SameArgValues xs ys → InstanceHolds preds p xs h n ↔ InstanceHolds preds p ys h n
+
+-- an instance holds at a height below one bound exactly where it does so below another
+abbrev pub BoundLaw : Type 0
+BoundLaw =
+    (preds : Preds) (a b p : ℕ) (args : List ArgValue) (h : Store) (n : ℕ) → HoldsBelow preds a p args h n → n < b → HoldsBelow preds b p args h n
