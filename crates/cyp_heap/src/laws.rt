@@ -1,0 +1,26 @@
+//! Laws of the definitions on instances and heaps, each proved as the contract of a function that
+//! does nothing.
+
+ghost use Rattle.cyp_heap.specs.Laws.{BoundLaw, HeightLaw, ListingLaw, SideHeightsLaw};
+
+/// Law: an instance's height is at most the number of cells of its heap, where the predicates are
+/// formed.
+pub fn height_is_within_cells()
+    ensures { HeightLaw }
+{}
+
+/// Law: each number with which a side of a goal holds is at most the number of cells of the heap,
+/// where the predicates are formed.
+pub fn side_heights_are_within_cells()
+    ensures { SideHeightsLaw }
+{}
+
+/// Law: what an instance means doesn't depend on how its set arguments are listed.
+pub fn instance_means_by_members()
+    ensures { ListingLaw }
+{}
+
+/// Law: what an instance means doesn't depend on the bound above its height.
+pub fn instance_means_at_any_bound()
+    ensures { BoundLaw }
+{}
