@@ -1,12 +1,10 @@
 -- What an instance means doesn't depend on the bound above its height.
-use Rattle.std.proofs.Common.{◌≡◌, sym, ℕ, zero, suc, ◌<◌, List, [], ◌∷◌, arith, subst}
-use Rattle.std.specs.Prelude.{max}
+use Rattle.std.proofs.Common.{◌≡◌, ℕ, zero, suc, ◌<◌, List, [], ◌∷◌, arith, subst}
 use Rattle.cyp_heap.specs.Instances.{ArgValue, ChunksHold, HoldsBelow, Instances, greatest, height_above}
 use Rattle.cyp_heap.specs.Laws.{BoundLaw}
 use Rattle.cyp_heap.specs.Stores.{Store}
 use Rattle.cyp_heap.specs.declared.chunk.Chunk.{Chunk}
 use Rattle.cyp_heap.specs.declared.chunk.Chunk.TheVariants.{Block, Cell, Inst}
-use Rattle.cyp_heap.specs.declared.pred.Preds.{Preds}
 use Rattle.cyp_term.specs.Meaning.{Assignment}
 
 -- each of the numbers is below the bound

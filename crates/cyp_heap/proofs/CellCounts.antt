@@ -1,13 +1,12 @@
 -- How many cells there are in a union of heaps, in a cell and in a block.
-use Rattle.std.proofs.Common.{◌≡◌, refl, sym, ap, ◌∙◌, ◌⊎◌, inl, inr, ℕ, zero, suc, ◌+◌, ◌-◌, Bool, true, false, cond, ◌||◌, List, [], ◌∷◌, map, length, ℤ, pos, ◌<ℤ◌, Option, Some, None, arith, subst}
+use Rattle.std.proofs.Common.{◌≡◌, refl, sym, ap, ◌∙◌, ◌⊎◌, inl, inr, ℕ, zero, suc, ◌+◌, ◌-◌, Bool, true, cond, ◌||◌, List, [], ◌∷◌, map, length, ℤ, Option, None, arith}
 use Rattle.std.specs.Prelude.{is_some}
 use Rattle.std.specs.List.{list_any}
 use Rattle.std.specs.Ordering.{int_cmp, eq_by_cmp}
 use Rattle.std.specs.Cmp.{int_cmp_total}
-use Rattle.std.specs.FinMap.{FinMap, empty, entries, get, insert, len, remove, get-empty, len-empty, len-entries, len-insert, len-remove, empty_of_len, contains_key-keys, same_map, int_cmp-IsAntisymmetric}
-use Rattle.std.proofs.lemmas.Bool.{false≢true}
+use Rattle.std.specs.FinMap.{FinMap, empty, entries, get, len, remove, get-empty, len-empty, len-entries, len-insert, len-remove, empty_of_len, contains_key-keys, same_map, int_cmp-IsAntisymmetric}
 use Rattle.std.proofs.lemmas.Cmp.{eq_by_cmp_equiv}
-use Rattle.cyp_heap.specs.Stores.{IsBlock, IsCell, IsDisjointUnion, IsUnion, Store, cell_count, no_store}
+use Rattle.cyp_heap.specs.Stores.{IsCell, IsDisjointUnion, IsUnion, Store, cell_count, no_store}
 use Rattle.cyp_heap.proofs.Unions.{some_or_none, union_left, union_remove}
 
 one_less : (n r : ℕ) → (n ≡ 0 → ⊥) → r ≡ n - 1 → suc r ≡ n
@@ -33,7 +32,7 @@ module _ {A : Type 0} where
   key_of m (x ∷ es) k e n = (
     x.0,
     contains_key-keys m x.0 ∙ ap (λ (ys : List (ℤ × A)). list_any (eq_by_cmp int_cmp x.0) (map (λ y. y.0) ys)) e
-    ∙ ap (λ (b : Bool). b || list_any (eq_by_cmp int_cmp x.0) (map (λ y. y.0) es)) ((eq_by_cmp_equiv int_cmp_total).refl x.0),
+        ∙ ap (λ (b : Bool). b || list_any (eq_by_cmp int_cmp x.0) (map (λ y. y.0) es)) ((eq_by_cmp_equiv int_cmp_total).refl x.0),
   )
 
   -- ---- a union

@@ -1,14 +1,13 @@
 -- Heights of instances are below the number of cells.
-use Rattle.std.proofs.Common.{◌≡◌, refl, sym, ap, ◌∙◌, ◌⊎◌, inl, inr, ℕ, zero, suc, ◌+◌, ◌≤◌, ◌==◌, Bool, true, false, ◌||◌, List, [], ◌∷◌, length, Option, Some, None, arith, IsTrue}
+use Rattle.std.proofs.Common.{◌≡◌, sym, ap, ◌∙◌, ◌⊎◌, inl, inr, ℕ, zero, suc, ◌+◌, ◌≤◌, ◌==◌, Bool, true, List, [], ◌∷◌, length, Some, arith, IsTrue}
 use Rattle.std.specs.Prelude.{max, slice_get}
 use Rattle.std.specs.List.{list_all, list_any}
 use Rattle.std.proofs.lemmas.Bool.{false≢true, and_parts, eqb-true, or_cases}
 use Rattle.std.proofs.lemmas.Option.{none-some, same_Some}
-use Rattle.cyp_heap.specs.Assertions.{SideHolds}
 use Rattle.cyp_heap.specs.Chunks.{insts}
 use Rattle.cyp_heap.specs.Instances.{ArgValue, ChunksHold, HoldsBelow, InstanceHolds, Instances, greatest, height_above}
 use Rattle.cyp_heap.specs.Laws.{HeightLaw, SideHeightsLaw}
-use Rattle.cyp_heap.specs.PredsFormed.{IsFormedPreds, all_clauses, is_cell, is_productive}
+use Rattle.cyp_heap.specs.PredsFormed.{all_clauses, is_cell, is_productive}
 use Rattle.cyp_heap.specs.Stores.{Store, cell_count}
 use Rattle.cyp_heap.specs.declared.chunk.Chunk.{Chunk}
 use Rattle.cyp_heap.specs.declared.chunk.Chunk.TheVariants.{Block, Cell, Inst}
@@ -70,8 +69,8 @@ module _ (inst : Instances) (s : Assignment) where
   greatest_and_cells low (Inst i ∷ cs) h ns k =
       let p : greatest ns ≡ max k.2 (greatest k.3) = ap greatest k.4 in
       let q : max k.2 (greatest k.3) + cells cs ≤ cell_count h =
-          at_most_sum k.2 (greatest k.3) (cell_count k.0) (cell_count k.1) (cells cs) (cell_count h) (low i.pred _ k.0 k.2 k.6) (greatest_and_cells low cs k.1 k.3 k.7)
-          (union_count h k.0 k.1 k.5)
+      at_most_sum k.2 (greatest k.3) (cell_count k.0) (cell_count k.1) (cells cs) (cell_count h) (low i.pred _ k.0 k.2 k.6) (greatest_and_cells low cs k.1 k.3 k.7)
+      (union_count h k.0 k.1 k.5)
       in omega arith
   greatest_and_cells low (Block b ∷ cs) h ns k =
       at_most_second (greatest ns) (cells cs) (cell_count k.0) (cell_count k.1) (cell_count h) (greatest_and_cells low cs k.1 ns k.4) (union_count h k.0 k.1 k.2)
@@ -102,8 +101,8 @@ low_below preds e zero p args h n k = absurd k
 low_below preds e (suc bound) p args h n k =
     let c : Clause = k.2.1 in
     let q : height_above k.2.3 ≤ cell_count h =
-        clause_height (HoldsBelow preds bound) k.2.2 (low_below preds e bound) c h k.2.3
-        (clause_passes (λ q d. is_productive d) preds e p k.2.0 k.0 c k.1 k.2.4) k.2.8
+    clause_height (HoldsBelow preds bound) k.2.2 (low_below preds e bound) c h k.2.3
+    (clause_passes (λ q d. is_productive d) preds e p k.2.0 k.0 c k.1 k.2.4) k.2.8
     in
     let r : n ≡ height_above k.2.3 = k.2.9 in omega arith
 

@@ -1,5 +1,7 @@
 pub mod Unions
 pub mod CellCounts
 pub mod Heights
+pub mod Guards
 pub mod Listings
 pub mod Bounds
+mod Examples

@@ -1,12 +1,12 @@
 -- What an instance means doesn't depend on the listing of its set arguments.
-use Rattle.std.proofs.Common.{◌≡◌, sym, ◌∙◌, ℕ, suc, List, [], ◌∷◌, ℤ}
+use Rattle.std.proofs.Common.{sym, ◌∙◌, ℕ, suc, List, [], ◌∷◌}
 use Rattle.cyp_heap.specs.Instances.{ArgValue, Members, Number, ParamsAre, InstanceHolds}
 use Rattle.cyp_heap.specs.Laws.{ListingLaw, SameArgValue, SameArgValues}
 use Rattle.cyp_heap.specs.Stores.{Store}
 use Rattle.cyp_heap.specs.declared.pred.Preds.{Preds}
-use Rattle.cyp_term.specs.Meaning.{Assignment, SameMembers}
+use Rattle.cyp_term.specs.Meaning.{Assignment}
 use Rattle.cyp_term.specs.declared.term.Sort.{Sort}
-use Rattle.cyp_term.specs.declared.term.Sort.TheVariants.{Card, Int, Set}
+use Rattle.cyp_term.specs.declared.term.Sort.TheVariants.{Int, Set}
 
 pub same_value_sym : (x y : ArgValue) → SameArgValue x y → SameArgValue y x
 same_value_sym (Number x) (Number y) e = sym e

@@ -3,11 +3,11 @@ use Rattle.std.proofs.Common.{◌≡◌, refl, sym, ap, ◌∙◌, ◌⊎◌, in
 use Rattle.std.specs.Prelude.{is_some}
 use Rattle.std.specs.Ordering.{int_cmp, eq_by_cmp, is_eq}
 use Rattle.std.specs.Cmp.{int_cmp_total}
-use Rattle.std.specs.FinMap.{FinMap, get, remove, get-remove, int_cmp-IsAntisymmetric}
+use Rattle.std.specs.FinMap.{FinMap, empty, get, insert, remove, get-empty, get-insert, get-remove, int_cmp-IsAntisymmetric}
 use Rattle.std.proofs.lemmas.Bool.{false≢true}
 use Rattle.std.specs.declared.cmp.Ordering.{Ordering}
 use Rattle.std.specs.declared.cmp.Ordering.TheVariants.{Less, Equal, Greater}
-use Rattle.cyp_heap.specs.Stores.{IsDisjointUnion}
+use Rattle.cyp_heap.specs.Stores.{IsDisjointUnion, IsUnion, Store, no_store}
 
 pub some_or_none : {A : Type 0} (o : Option A) → o ≡ None → is_some o ≡ true → ⊥
 some_or_none None e h = false≢true h
@@ -32,6 +32,12 @@ module _ {A : Type 0} where
   pub union_left : (all a b : FinMap int_cmp A) → IsDisjointUnion all a b → (k : ℤ) → is_some (get a k) ≡ true → (get b k ≡ None) × (get all k ≡ get a k)
   union_left all a b u k h = elim (u k) [ inl p ↦ absurd (some_or_none (get a k) p.0 h) | inr p ↦ p ]
 
+  get_insert_true : (m : FinMap int_cmp A) (k z : ℤ) (v : A) → eq_by_cmp int_cmp z k ≡ true → get (insert m k v) z ≡ Some v
+  get_insert_true m k z v e = get-insert int_cmp_total m k v z ∙ ap (λ (t : Bool). cond t (Some v) (get m z)) e
+
+  get_insert_false : (m : FinMap int_cmp A) (k z : ℤ) (v : A) → eq_by_cmp int_cmp z k ≡ false → get (insert m k v) z ≡ get m z
+  get_insert_false m k z v e = get-insert int_cmp_total m k v z ∙ ap (λ (t : Bool). cond t (Some v) (get m z)) e
+
   kept_at : (all a b new_all new_a : FinMap int_cmp A) (z : ℤ) → get new_all z ≡ get all z → get new_a z ≡ get a z
       → ((get a z ≡ None) × (get all z ≡ get b z)) ⊎ ((get b z ≡ None) × (get all z ≡ get a z))
       → ((get new_a z ≡ None) × (get new_all z ≡ get b z)) ⊎ ((get b z ≡ None) × (get new_all z ≡ get new_a z))
@@ -46,3 +52,30 @@ module _ {A : Type 0} where
   -- without an entry that the second part doesn't have
   pub union_remove : (all a b : FinMap int_cmp A) → IsDisjointUnion all a b → (k : ℤ) → get b k ≡ None → IsDisjointUnion (remove all k) (remove a k) b
   union_remove all a b u k free z = remove_at all a b u k free z (eq_by_cmp int_cmp z k) refl
+
+  insert_at : (all a b : FinMap int_cmp A) → IsDisjointUnion all a b → (k : ℤ) (v : A) → get b k ≡ None → (z : ℤ) (t : Bool) → eq_by_cmp int_cmp z k ≡ t
+      → ((get (insert a k v) z ≡ None) × (get (insert all k v) z ≡ get b z)) ⊎ ((get b z ≡ None) × (get (insert all k v) z ≡ get (insert a k v) z))
+  insert_at all a b u k v free z true e = inr (ap (get b) (tied z k e) ∙ free, get_insert_true all k z v e ∙ sym (get_insert_true a k z v e))
+  insert_at all a b u k v free z false e = kept_at all a b (insert all k v) (insert a k v) z (get_insert_false all k z v e) (get_insert_false a k z v e) (u z)
+
+  -- with an entry that the second part doesn't have
+  pub union_insert : (all a b : FinMap int_cmp A) → IsDisjointUnion all a b → (k : ℤ) (v : A) → get b k ≡ None → IsDisjointUnion (insert all k v) (insert a k v) b
+  union_insert all a b u k v free z = insert_at all a b u k v free z (eq_by_cmp int_cmp z k) refl
+
+  -- nothing beside a map
+  pub empty_beside : (m : FinMap int_cmp A) → IsDisjointUnion m empty m
+  empty_beside m z = inl (get-empty int_cmp z, refl)
+
+  pub beside_empty : (m : FinMap int_cmp A) → IsDisjointUnion m m empty
+  beside_empty m z = inr (get-empty int_cmp z, refl)
+
+  -- one entry beside a map that doesn't have it
+  pub one_beside : (m : FinMap int_cmp A) (k : ℤ) (v : A) → get m k ≡ None → IsDisjointUnion (insert m k v) (insert empty k v) m
+  one_beside m k v free = union_insert m empty m (empty_beside m) k v free
+
+-- nothing beside a heap
+pub nothing_beside : (h : Store) → IsUnion h no_store h
+nothing_beside h = (empty_beside h.cells, empty_beside h.blocks)
+
+pub beside_nothing : (h : Store) → IsUnion h h no_store
+beside_nothing h = (beside_empty h.cells, beside_empty h.blocks)

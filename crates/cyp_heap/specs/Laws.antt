@@ -1,12 +1,14 @@
--- Laws of instances: their heights, their bounds, and sets as arguments.
+-- Laws of instances: their heights and bounds, their clauses' guards, and sets as arguments.
 use Rattle.std.specs.Prelude.{Some, List, [], ◌<◌, ◌≡◌, ◌≤◌, ◌↔◌, slice_get, ◌∷◌, ℕ}
 use Rattle.cyp_heap.specs.Assertions.{SideHolds}
 use Rattle.cyp_heap.specs.Instances.{ArgValue, HoldsBelow, InstanceHolds, Members, Number}
 use Rattle.cyp_heap.specs.PredsFormed.{IsFormedPreds}
 use Rattle.cyp_heap.specs.Stores.{Store, cell_count}
 use Rattle.cyp_heap.specs.declared.chunk.Chunk.{Chunk}
+use Rattle.cyp_heap.specs.declared.pred.Clause.{Clause}
+use Rattle.cyp_heap.specs.declared.pred.Pred.{Pred}
 use Rattle.cyp_heap.specs.declared.pred.Preds.{Preds}
-use Rattle.cyp_term.specs.Meaning.{Assignment, SameMembers}
+use Rattle.cyp_term.specs.Meaning.{Assignment, SameMembers, Truth}
 use Rattle.cyp_term.specs.declared.lit.Lit.{Lit}
 
 -- an instance's height is at most the number of cells of its heap
@@ -18,6 +20,12 @@ abbrev pub SideHeightsLaw : Type 0
 SideHeightsLaw =
     (preds : Preds) → IsFormedPreds preds → (s : Assignment) (lits : List Lit) (chunks : List Chunk) (h : Store) (ns : List ℕ) → SideHolds preds s lits chunks h ns
     → (k n : ℕ) → slice_get ns k ≡ Some n → n ≤ cell_count h
+
+-- one clause of an instance's predicate at most has a true guard
+abbrev pub GuardsLaw : Type 0
+GuardsLaw =
+    (preds : Preds) → IsFormedPreds preds → (p i j : ℕ) (q : Pred) (c d : Clause) (s : Assignment) → slice_get preds.list p ≡ Some q
+    → slice_get q.clauses i ≡ Some c → slice_get q.clauses j ≡ Some d → Truth s c.guard → Truth s d.guard → i ≡ j
 
 -- a number is the same, a set has the same members
 abbrev pub SameArgValue : ArgValue → ArgValue → Type 0
@@ -36,7 +44,7 @@ abbrev pub ListingLaw : Type 0
 ListingLaw =
     (preds : Preds) (p : ℕ) (xs ys : List ArgValue) (h : Store) (n : ℕ) → SameArgValues xs ys → InstanceHolds preds p xs h n ↔ InstanceHolds preds p ys h n
 
--- an instance holds at a height below one bound exactly where it does so below another
+-- an instance that holds at a height below one bound does so below each bound that its height is below
 abbrev pub BoundLaw : Type 0
 BoundLaw =
     (preds : Preds) (a b p : ℕ) (args : List ArgValue) (h : Store) (n : ℕ) → HoldsBelow preds a p args h n → n < b → HoldsBelow preds b p args h n

@@ -47,8 +47,8 @@ none_overlap [] = true
 none_overlap (g ∷ gs) = not (list_any (overlap g) gs) && none_overlap gs
 
 -- the guards of the predicate's clauses in order
-abbrev pub guards : Pred → List Lit
-guards q = map (λ (c : Clause). c.guard) q.clauses
+abbrev pub clause_guards : Pred → List Lit
+clause_guards q = map (λ (c : Clause). c.guard) q.clauses
 
 -- ---- clauses
 
@@ -137,7 +137,7 @@ pub record IsFormedPreds (preds : Preds) : Type 0 where
   pub params_sorted : IsTrue (list_all (λ (q : Pred). list_all (λ s. not (sort_eq s Card)) q.params) preds.list)
   -- guards are literals of integers over parameters, and no two of one predicate can both hold
   pub guards_plain : IsTrue (all_clauses (λ q c. is_guard q c.guard) preds)
-  pub guards_apart : IsTrue (list_all (λ q. none_overlap (guards q)) preds.list)
+  pub guards_apart : IsTrue (list_all (λ q. none_overlap (clause_guards q)) preds.list)
   -- the variables of a clause are the parameters and its own
   pub params_counted : IsTrue (all_clauses counts_params preds)
   pub closed : IsTrue (all_clauses (λ q c. is_closed c) preds)

@@ -1,7 +1,7 @@
 //! Laws of the definitions on instances and heaps, each proved as the contract of a function that
 //! does nothing.
 
-ghost use Rattle.cyp_heap.specs.Laws.{BoundLaw, HeightLaw, ListingLaw, SideHeightsLaw};
+ghost use Rattle.cyp_heap.specs.Laws.{BoundLaw, GuardsLaw, HeightLaw, ListingLaw, SideHeightsLaw};
 
 /// Law: an instance's height is at most the number of cells of its heap, where the predicates are
 /// formed.
@@ -13,6 +13,12 @@ pub fn height_is_within_cells()
 /// where the predicates are formed.
 pub fn side_heights_are_within_cells()
     ensures { SideHeightsLaw }
+{}
+
+/// Law: in one assignment at most one clause of a predicate has a true guard, where the predicates
+/// are formed.
+pub fn one_guard_is_true()
+    ensures { GuardsLaw }
 {}
 
 /// Law: what an instance means doesn't depend on how its set arguments are listed.
