@@ -1,10 +1,10 @@
 -- Heights of instances are below the number of cells.
-use Rattle.std.proofs.Common.{◌≡◌, sym, ap, ◌∙◌, ◌⊎◌, inl, inr, ℕ, zero, suc, ◌+◌, ◌≤◌, ◌==◌, Bool, true, List, [], ◌∷◌, length, Some, arith, IsTrue}
+use Rattle.std.proofs.Common.{◌≡◌, refl, sym, ap, ◌∙◌, ◌⊎◌, inl, inr, ℕ, zero, suc, ◌+◌, ◌≤◌, Bool, true, not, List, [], ◌∷◌, length, Some, arith, IsTrue}
 use Rattle.std.specs.Prelude.{max, slice_get}
 use Rattle.std.specs.List.{list_all, list_any}
-use Rattle.std.proofs.lemmas.Bool.{false≢true, and_parts, eqb-true, or_cases}
+use Rattle.std.proofs.lemmas.Bool.{false≢true, and_parts, or_cases}
 use Rattle.std.proofs.lemmas.Option.{none-some, same_Some}
-use Rattle.cyp_heap.specs.Chunks.{insts}
+use Rattle.cyp_heap.specs.Chunks.{insts, is_inst}
 use Rattle.cyp_heap.specs.Instances.{ArgValue, ChunksHold, HoldsBelow, InstanceHolds, Instances, greatest, height_above}
 use Rattle.cyp_heap.specs.Laws.{HeightLaw, SideHeightsLaw}
 use Rattle.cyp_heap.specs.PredsFormed.{all_clauses, is_cell, is_productive}
@@ -45,6 +45,13 @@ some_cell (Inst i ∷ cs) h = some_cell cs h
 some_cell (Block k ∷ cs) h = some_cell cs h
 some_cell (Cell k ∷ cs) h = omega arith
 
+-- without a chunk that is an instance there are no instances
+no_insts : (cs : List Chunk) → not (list_any is_inst cs) ≡ true → length (insts cs) ≡ 0
+no_insts [] h = refl
+no_insts (Inst i ∷ cs) h = absurd (false≢true h)
+no_insts (Block k ∷ cs) h = no_insts cs h
+no_insts (Cell k ∷ cs) h = no_insts cs h
+
 at_most_sum : (m n x y c z : ℕ) → m ≤ x → n + c ≤ y → z ≡ x + y → max m n + c ≤ z
 at_most_sum m n x y c z p q e = omega arith
 
@@ -80,20 +87,20 @@ module _ (inst : Instances) (s : Assignment) where
 
   above_cells : (low : (p : ℕ) (xs : List ArgValue) (a : Store) (m : ℕ) → inst p xs a m → m ≤ cell_count a)
       (c : Clause) (h : Store) (ns : List ℕ) → ChunksHold inst s c.heap.chunks h ns
-      → (list_any is_cell c.heap.chunks ≡ true) ⊎ ((length (insts c.heap.chunks) == 0) ≡ true) → height_above ns ≤ cell_count h
+      → (not (list_any is_inst c.heap.chunks) ≡ true) ⊎ (list_any is_cell c.heap.chunks ≡ true) → height_above ns ≤ cell_count h
   above_cells low c h [] k e = omega arith
-  above_cells low c h (n ∷ ns) k (inl e) =
+  above_cells low c h (n ∷ ns) k (inr e) =
       let p : greatest (n ∷ ns) + cells c.heap.chunks ≤ cell_count h = greatest_and_cells low c.heap.chunks h (n ∷ ns) k in
       let q : 1 ≤ cells c.heap.chunks = some_cell c.heap.chunks e in omega arith
-  above_cells low c h (n ∷ ns) k (inr e) =
+  above_cells low c h (n ∷ ns) k (inl e) =
       let p : suc (length ns) ≡ length (insts c.heap.chunks) = one_each c.heap.chunks h (n ∷ ns) k in
-      let q : length (insts c.heap.chunks) ≡ 0 = eqb-true (length (insts c.heap.chunks)) 0 e in absurd (omega arith)
+      let q : length (insts c.heap.chunks) ≡ 0 = no_insts c.heap.chunks e in absurd (omega arith)
 
 -- the height above the instances of a productive clause is at most the number of cells
 pub clause_height : (inst : Instances) (s : Assignment) → ((p : ℕ) (xs : List ArgValue) (a : Store) (m : ℕ) → inst p xs a m → m ≤ cell_count a)
     → (c : Clause) (h : Store) (ns : List ℕ) → IsTrue (is_productive c) → ChunksHold inst s c.heap.chunks h ns → height_above ns ≤ cell_count h
 clause_height inst s low c h ns e k =
-    above_cells inst s low c h ns k (or_cases (list_any is_cell c.heap.chunks) (length (insts c.heap.chunks) == 0) e)
+    above_cells inst s low c h ns k (or_cases (not (list_any is_inst c.heap.chunks)) (list_any is_cell c.heap.chunks) e)
 
 pub low_below : (preds : Preds) → IsTrue (all_clauses (λ q c. is_productive c) preds) → (bound p : ℕ) (args : List ArgValue) (h : Store) (n : ℕ)
     → HoldsBelow preds bound p args h n → n ≤ cell_count h

@@ -3,5 +3,8 @@ pub mod CellCounts
 pub mod Heights
 pub mod Guards
 pub mod Listings
+pub mod SameChunks
+pub mod Applied
+pub mod Agreement
 pub mod Bounds
 mod Examples

@@ -31,7 +31,7 @@ params_same s i k (Int ∷ ps) (Number x ∷ xs) (Number y ∷ ys) e h = (h.0 �
 params_same s i k (Set ∷ ps) (Members x ∷ xs) (Members y ∷ ys) e h = (λ z. h.0 z ∙ e.0 z, params_same s i (suc k) ps xs ys e.1 h.1)
 params_same s i k ps xs ys e h = absurd h
 
-by_values : (preds : Preds) (p : ℕ) (xs ys : List ArgValue) (h : Store) (n : ℕ) → SameArgValues xs ys → InstanceHolds preds p xs h n → InstanceHolds preds p ys h n
+pub by_values : (preds : Preds) (p : ℕ) (xs ys : List ArgValue) (h : Store) (n : ℕ) → SameArgValues xs ys → InstanceHolds preds p xs h n → InstanceHolds preds p ys h n
 by_values preds p xs ys h n e k =
     (k.0, k.1, (k.2.0, k.2.1, k.2.2, k.2.3, k.2.4, params_same k.2.2 0 0 k.0.params xs ys e k.2.5, k.2.6, k.2.7, k.2.8, k.2.9))
 

@@ -1,15 +1,17 @@
 -- Laws of instances: their heights and bounds, their clauses' guards, and sets as arguments.
-use Rattle.std.specs.Prelude.{Some, List, [], ◌<◌, ◌≡◌, ◌≤◌, ◌↔◌, slice_get, ◌∷◌, ℕ}
+use Rattle.std.specs.Prelude.{Some, List, map, [], ◌<◌, ◌≡◌, ◌≤◌, ◌↔◌, slice_get, ◌∷◌, ℕ}
 use Rattle.cyp_heap.specs.Assertions.{SideHolds}
-use Rattle.cyp_heap.specs.Instances.{ArgValue, HoldsBelow, InstanceHolds, Members, Number}
+use Rattle.cyp_heap.specs.Chunks.{apply_chunk}
+use Rattle.cyp_heap.specs.Instances.{ArgValue, ChunksHold, HoldsBelow, InstanceHolds, Members, Number}
 use Rattle.cyp_heap.specs.PredsFormed.{IsFormedPreds}
 use Rattle.cyp_heap.specs.Stores.{Store, cell_count}
 use Rattle.cyp_heap.specs.declared.chunk.Chunk.{Chunk}
 use Rattle.cyp_heap.specs.declared.pred.Clause.{Clause}
 use Rattle.cyp_heap.specs.declared.pred.Pred.{Pred}
 use Rattle.cyp_heap.specs.declared.pred.Preds.{Preds}
-use Rattle.cyp_term.specs.Meaning.{Assignment, SameMembers, Truth}
+use Rattle.cyp_term.specs.Meaning.{Assignment, SameMembers, Truth, under}
 use Rattle.cyp_term.specs.declared.lit.Lit.{Lit}
+use Rattle.cyp_term.specs.declared.subst.Subst.{Subst}
 
 -- an instance's height is at most the number of cells of its heap
 abbrev pub HeightLaw : Type 0
@@ -48,3 +50,9 @@ ListingLaw =
 abbrev pub BoundLaw : Type 0
 BoundLaw =
     (preds : Preds) (a b p : ℕ) (args : List ArgValue) (h : Store) (n : ℕ) → HoldsBelow preds a p args h n → n < b → HoldsBelow preds b p args h n
+
+-- chunks after a substitution hold exactly where the chunks hold of the values that the substitution gives their variables
+abbrev pub ApplyChunksLaw : Type 0
+ApplyChunksLaw =
+    (preds : Preds) (by : Subst) (s : Assignment) (cs : List Chunk) (h : Store) (ns : List ℕ)
+    → ChunksHold (InstanceHolds preds) s (map (apply_chunk by) cs) h ns ↔ ChunksHold (InstanceHolds preds) (under by s) cs h ns

@@ -1,7 +1,7 @@
 -- What is asked of the predicates of a specification: their limits, their guards, and the variables and instances of clauses.
 use Rattle.std.specs.Prelude.{Bool, IsTrue, [], List, false, filter, flat_map, is_none, length, map, nat_le, nat_lt, not, true, ◌&&◌, ◌++◌, ◌==◌, ℕ, ◌∷◌, ◌||◌}
 use Rattle.std.specs.List.{list_all, list_any}
-use Rattle.cyp_heap.specs.Chunks.{insts}
+use Rattle.cyp_heap.specs.Chunks.{insts, is_inst}
 use Rattle.cyp_heap.specs.Formed.{inst_fits}
 use Rattle.cyp_heap.specs.Limits.{chunk_elements}
 use Rattle.cyp_heap.specs.declared.chunk.Arg.{Arg}
@@ -100,7 +100,7 @@ is_cell _ = false
 
 -- a clause with an instance owns a cell, so that what it unfolds to gets smaller
 abbrev pub is_productive : Clause → Bool
-is_productive c = list_any is_cell c.heap.chunks || (length (insts c.heap.chunks) == 0)
+is_productive c = not (list_any is_inst c.heap.chunks) || list_any is_cell c.heap.chunks
 
 -- the variables of terms are integers below the count of integers, those of unions sets below the count of sets
 abbrev pub is_closed : Clause → Bool
@@ -129,6 +129,7 @@ all_clauses test preds = list_all (λ (q : Pred). list_all (test q) q.clauses) p
 
 -- what the predicates of each specification keep
 pub record IsFormedPreds (preds : Preds) : Type 0 where
+  -- at most 16 predicates
   pub few : IsTrue (nat_le (length preds.list) 16)
   -- from 1 to 8 clauses, and at most 8 parameters, each an integer or a set
   pub has_clauses : IsTrue (list_all (λ (q : Pred). nat_le 1 (length q.clauses)) preds.list)

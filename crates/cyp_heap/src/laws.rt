@@ -1,7 +1,7 @@
 //! Laws of the definitions on instances and heaps, each proved as the contract of a function that
 //! does nothing.
 
-ghost use Rattle.cyp_heap.specs.Laws.{BoundLaw, GuardsLaw, HeightLaw, ListingLaw, SideHeightsLaw};
+ghost use Rattle.cyp_heap.specs.Laws.{ApplyChunksLaw, BoundLaw, GuardsLaw, HeightLaw, ListingLaw, SideHeightsLaw};
 
 /// Law: an instance's height is at most the number of cells of its heap, where the predicates are
 /// formed.
@@ -29,4 +29,10 @@ pub fn instance_means_by_members()
 /// Law: what an instance means doesn't depend on the bound above its height.
 pub fn instance_means_at_any_bound()
     ensures { BoundLaw }
+{}
+
+/// Law: chunks after a substitution hold exactly where the chunks hold of the values that the
+/// substitution gives their variables.
+pub fn applied_chunks_hold()
+    ensures { ApplyChunksLaw }
 {}
