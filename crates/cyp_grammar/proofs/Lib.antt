@@ -1,0 +1,9 @@
+pub mod Spellings
+pub mod Readings
+pub mod Sequences
+pub mod Singles
+pub mod Mapped
+pub mod Options
+pub mod Choices
+pub mod Lists
+pub mod Wholes
