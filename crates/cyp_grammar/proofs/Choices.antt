@@ -2,7 +2,7 @@
 use Rattle.std.proofs.Common.{◌≡◌, ℕ, zero, suc, Bool, true, false, cond, ◌||◌, List, [], ◌∷◌, ◌++◌, Option, Some, None, Result, Ok, Err, ◌⊎◌, inl, inr, refl, sym, ap, subst, ◌∙◌, append_assoc, length, ◌<◌, ◌+◌, arith, length-append}
 use Rattle.cyp_grammar.specs.Lexemes.{Lexeme, Name, Said}
 use Rattle.cyp_grammar.specs.Spelling.{Any, At, Fits, IsEnd, Mark, Match, Then}
-use Rattle.cyp_grammar.specs.Readers.{AName, Difference, IsNamed, NoName, Read, Stop, Want, both, closed, closed_by, either, either_by, heads, mapped, option_after, option_by, pick_by, single, stop, token_or, ◌>>=◌}
+use Rattle.cyp_grammar.specs.Readers.{AName, IsNamed, NoName, Read, Stop, Want, both, closed, closed_by, either, either_by, heads, mapped, option_after, option_by, pick_by, single, stop, token_or, ◌>>=◌}
 use Rattle.cyp_grammar.proofs.Spellings.{append_nil, head_is, match_join, nil_left, then_join, then_put, then_split}
 use Rattle.cyp_grammar.proofs.Readings.{Apart, Avoids, Bars, May, Next, Reads, SameHead, Sound, Stuck, Took, Within, avoids_less, bars_next, less_reads, next_append, no_start, shorter}
 
@@ -14,7 +14,6 @@ spell_either f g (inr y) = g y
 abbrev pub SaysStart : {A : Type 0} → (A → List Mark) → (Said → Bool) → Want → Type 0
 SaysStart {A} sp starts AName = (t : Lexeme) → IsNamed t → (y : A) × (w : List Lexeme) × Match (sp y) (t ∷ w)
 SaysStart {A} sp starts NoName = ((x : List ℕ) → starts (Name x) ≡ false)
-SaysStart {A} sp starts Difference = Unit {0}
 
 -- the choice is right: where a token of the two stands, the one that is chosen begins with it, and the other doesn't begin so
 pub record IsChoice (A B : Type 0) (spA : A → List Mark) (sA : Said → Bool) (spB : B → List Mark) (sB : Said → Bool) (want : Want) (starts : Said → Bool) (pick : List Lexeme → Bool) : Type 1 where
@@ -152,14 +151,11 @@ either_reads {A} {B} spA sA fA p spB sB fB f q want starts pick n P Q C inA inB 
         let put = then_put (spell_either spA spB v.0) K (t ∷ v.1) k v.2 kk in
         (v.1 ++ k, v.0, subst (λ (x : List Lexeme). Then (spell_either spA spB v.0) K (t ∷ (x ++ (v.1 ++ k)))) (sym may.1) put)
     viable_of NoName says K k kk (t ∷ us) may = absurd may
-    viable_of Difference says K k kk (t ∷ us) may = absurd may
 
     none_of : (m : Want) → SaysStart (spell_either spA spB) starts m → (ts w : List Lexeme) → heads starts ts ≡ false → Bars m ts w → (y : A ⊎ B) (K : List Lexeme → Type 0) → Then (spell_either spA spB y) K w → ⊥
     none_of m says ts [] e b y K h = full_of y K h
     none_of AName says [] (u ∷ w) e b y K h = b
     none_of AName says (t ∷ ts) (u ∷ w) e b y K h = cc (first_of y K u w h, e, ap (λ (v : Lexeme). starts v.said) b)
-    none_of Difference says [] (u ∷ w) e b y K h = b
-    none_of Difference says (t ∷ ts) (u ∷ w) e b y K h = cc (first_of y K u w h, e, ap (λ (v : Lexeme). starts v.said) b)
     none_of NoName says ts (u ∷ w) e (inr b) y K h = cc (first_of y K u w h, says b.0, ap starts b.1)
     none_of NoName says [] (u ∷ w) e (inl b) y K h = b
     none_of NoName says (t ∷ ts) (u ∷ w) e (inl b) y K h = cc (first_of y K u w h, e, ap (λ (v : Lexeme). starts v.said) b)

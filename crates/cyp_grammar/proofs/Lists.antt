@@ -2,7 +2,7 @@
 use Rattle.std.proofs.Common.{◌≡◌, ℕ, zero, suc, Bool, true, false, cond, ◌||◌, List, [], ◌∷◌, ◌++◌, Option, Some, None, Result, Ok, Err, ◌⊎◌, inl, inr, refl, sym, ap, subst, ◌∙◌, append_assoc, length, ◌<◌, ◌+◌, arith, length-append}
 use Rattle.cyp_grammar.specs.Lexemes.{Lexeme, Name, Said}
 use Rattle.cyp_grammar.specs.Spelling.{Any, At, Fits, IsEnd, Mark, Match, Then, list_spelling, more_spelling}
-use Rattle.cyp_grammar.specs.Readers.{AName, Difference, IsNamed, NoName, Read, Stop, Want, both, closed, closed_by, either, either_by, heads, mapped, option_after, option_by, pick_by, cons_of, kind_tells, listed, listing, no_name, token, single, stop, token_or, ◌>>=◌}
+use Rattle.cyp_grammar.specs.Readers.{AName, IsNamed, NoName, Read, Stop, Want, both, closed, closed_by, either, either_by, heads, mapped, option_after, option_by, pick_by, cons_of, kind_tells, listed, listing, token, single, stop, token_or, ◌>>=◌}
 use Rattle.cyp_grammar.proofs.Spellings.{append_nil, head_is, match_join, nil_left, then_join, then_put, then_split}
 use Rattle.cyp_grammar.proofs.Readings.{Apart, Avoids, Bars, May, Next, Reads, SameHead, Sound, Stuck, Took, Within, avoids_less, bars_next, less_reads, next_append, no_start, shorter}
 use Rattle.cyp_grammar.proofs.Sequences.{both_reads, spell_both, then_reads}
@@ -27,21 +27,20 @@ none_if : (b : Bool) → b ≡ true → unit_if b ≡ None → ⊥
 none_if true e h = cc
 none_if false e h = cc
 
-pub kind_single : (k : Said) (is : Said → Bool) → is k ≡ true → ((j : Said) → is j ≡ true → j ≡ k) → ((x : List ℕ) → is (Name x) ≡ false) → IsSingle (Unit {0}) (kind_tells is) (kind_mark k) is NoName no_name
+pub kind_single : (k : Said) (is : Said → Bool) → is k ≡ true → ((j : Said) → is j ≡ true → j ≡ k) → ((x : List ℕ) → is (Name x) ≡ false) → IsSingle (Unit {0}) (kind_tells is) (kind_mark k) is NoName
 kind_single k is yes_k only name = record {
   fits = λ t a e. only t.said (some_if (is t.said) a e);
   only = λ t a e. rw (e, yes_k) refl;
   starts_true = λ t a e. some_if (is t.said) a e;
   starts_some = λ t st e. none_if (is t.said) st e;
-  says = λ t u a n e. cc (some_if (is u.said) a e, ap is n.1, name n.0);
-  says_end = λ u a n e. cc (some_if (is u.said) a e, ap is n.1, name n.0);
+  says = λ u a n e. cc (some_if (is u.said) a e, ap is n.1, name n.0);
   token = made k;
   value = tt;
   shows = rw yes_k refl;
 }
 
 pub token_reads : (k : Said) (is ends : Said → Bool) (n : ℕ) → is k ≡ true → ((j : Said) → is j ≡ true → j ≡ k) → ((x : List ℕ) → is (Name x) ≡ false) → Reads n (Unit {0}) (one (kind_mark k)) is ends (token is)
-token_reads k is ends n yes_k only name = single_reads (kind_tells is) (kind_mark k) is NoName no_name ends n (kind_single k is yes_k only name)
+token_reads k is ends n yes_k only name = single_reads (kind_tells is) (kind_mark k) is NoName ends n (kind_single k is yes_k only name)
 
 -- one or more as a pair
 abbrev pub listed_spelling : {A : Type 0} → Said → (A → List Mark) → A × List A → List Mark

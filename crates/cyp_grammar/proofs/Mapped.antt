@@ -2,7 +2,7 @@
 use Rattle.std.proofs.Common.{◌≡◌, ℕ, zero, suc, Bool, true, false, cond, ◌||◌, List, [], ◌∷◌, ◌++◌, Option, Some, None, Result, Ok, Err, ◌⊎◌, inl, inr, refl, sym, ap, subst, ◌∙◌, append_assoc, length, ◌<◌, ◌+◌, arith, length-append}
 use Rattle.cyp_grammar.specs.Lexemes.{Lexeme, Name, Said}
 use Rattle.cyp_grammar.specs.Spelling.{Any, At, Fits, IsEnd, Mark, Match, Then}
-use Rattle.cyp_grammar.specs.Readers.{AName, Difference, IsNamed, NoName, Read, Stop, Want, both, closed, closed_by, either, either_by, heads, mapped, option_after, option_by, pick_by, single, stop, token_or, ◌>>=◌}
+use Rattle.cyp_grammar.specs.Readers.{AName, IsNamed, NoName, Read, Stop, Want, both, closed, closed_by, either, either_by, heads, mapped, option_after, option_by, pick_by, single, stop, token_or, ◌>>=◌}
 use Rattle.cyp_grammar.proofs.Spellings.{append_nil, head_is, match_join, nil_left, then_join, then_put, then_split}
 use Rattle.cyp_grammar.proofs.Readings.{Apart, Avoids, Bars, May, Next, Reads, SameHead, Sound, Stuck, Took, Within, avoids_less, bars_next, less_reads, next_append, no_start, shorter}
 
@@ -47,39 +47,41 @@ mapped_reads {A} {B} spA s f p spB to back there again same n P = record {
 -- ---- no token that would go on
 
 closed_sound : {A : Type 0} (sp : A → List Mark) (s f test : Said → Bool) (p : List Lexeme → Read A) (n : ℕ) (P : Reads n A sp s f p)
-    (sub : (k : Said) → test k ≡ true → f k ≡ true) (ts : List Lexeme) (x : A) (rest : List Lexeme) (h : Took A sp f ts x rest) (b : Bool) → heads test rest ≡ b → Sound A sp s f ts (closed_by x rest b)
-closed_sound sp s f test p n P sub ts x rest h false e = h
-closed_sound sp s f test p n P sub ts x [] h true e = absurd cc
-closed_sound sp s f test p n P sub ts x (t ∷ rest) h true e = record {
+    (sub : Within test f) (name : (x : List ℕ) → f (Name x) ≡ true) (ts : List Lexeme) (x : A) (rest : List Lexeme) (h : Took A sp f ts x rest) (b : Bool) → heads test rest ≡ b → Sound A sp s f ts (closed_by x rest b)
+closed_sound sp s f test p n P sub name ts x rest h false e = h
+closed_sound sp s f test p n P sub name ts x [] h true e = absurd cc
+closed_sound sp s f test p n P sub name ts x (t ∷ rest) h true e = record {
   before = h.front;
   rest = t ∷ rest;
   left = refl;
   parts = h.parts;
   begun = λ u us eq st nil. P.full x IsEnd (subst (λ (v : List Lexeme). Match (sp x) v) nil h.matched);
   viable = λ K k kk u m. (k, x, plain K k kk u m);
-  none = λ K av w b y hy. bar K av w b (h.only K av w (inl b) y hy).1;
+  none = λ K av w b y hy. bar K av w b (h.only K av w b y hy).1;
 }
   where
-    plain : (K : List Lexeme → Type 0) (k : List Lexeme) → K k → (u : List Lexeme) → May Difference u → Then (sp x) K (h.front ++ (u ++ k))
+    plain : (K : List Lexeme → Type 0) (k : List Lexeme) → K k → (u : List Lexeme) → May NoName u → Then (sp x) K (h.front ++ (u ++ k))
     plain K k kk [] m = then_put (sp x) K h.front k h.matched kk
     plain K k kk (u ∷ us) m = absurd m
 
-    bar : (K : List Lexeme → Type 0) → Avoids f K → (w : List Lexeme) → SameHead (t ∷ rest) w → K w → ⊥
-    bar K av [] b k = b
-    bar K av (u ∷ w) b k =
+    bar : (K : List Lexeme → Type 0) → Avoids f K → (w : List Lexeme) → Next (t ∷ rest) w → K w → ⊥
+    bar K av [] (inl b) k = b
+    bar K av [] (inr b) k = b
+    bar K av (u ∷ w) (inr b) k = cc (av u w k, name b.0, ap f b.1)
+    bar K av (u ∷ w) (inl b) k =
         let is_so : f t.said ≡ true = sub t.said e in
         let not_so : f u.said ≡ false = av u w k in
         cc (is_so, not_so, ap (λ (v : Lexeme). f v.said) b)
 
 closed_any : {A : Type 0} (sp : A → List Mark) (s f test : Said → Bool) (p : List Lexeme → Read A) (n : ℕ) (P : Reads n A sp s f p)
-    (sub : (k : Said) → test k ≡ true → f k ≡ true) (ts : List Lexeme) (r : Read A) → Sound A sp s f ts r → Sound A sp s f ts (r >>= λ x. closed_by x.0 x.1 (heads test x.1))
-closed_any sp s f test p n P sub ts (Ok x) h = closed_sound sp s f test p n P sub ts x.0 x.1 h (heads test x.1) refl
-closed_any sp s f test p n P sub ts (Err e) h = h
+    (sub : Within test f) (name : (x : List ℕ) → f (Name x) ≡ true) (ts : List Lexeme) (r : Read A) → Sound A sp s f ts r → Sound A sp s f ts (r >>= λ x. closed_by x.0 x.1 (heads test x.1))
+closed_any sp s f test p n P sub name ts (Ok x) h = closed_sound sp s f test p n P sub name ts x.0 x.1 h (heads test x.1) refl
+closed_any sp s f test p n P sub name ts (Err e) h = h
 
 pub closed_reads : {A : Type 0} (sp : A → List Mark) (s f test : Said → Bool) (p : List Lexeme → Read A) (n : ℕ) → Reads n A sp s f p
-    → ((k : Said) → test k ≡ true → f k ≡ true) → Reads n A sp s f (closed test p)
-closed_reads sp s f test p n P sub = record {
-  sound = λ ts short. closed_any sp s f test p n P sub ts (p ts) (P.sound ts short);
+    → Within test f → ((x : List ℕ) → f (Name x) ≡ true) → Reads n A sp s f (closed test p)
+closed_reads sp s f test p n P sub name = record {
+  sound = λ ts short. closed_any sp s f test p n P sub name ts (p ts) (P.sound ts short);
   first = P.first;
   full = P.full;
   some = P.some;

@@ -2,7 +2,7 @@
 use Rattle.std.proofs.Common.{◌≡◌, ℕ, zero, suc, Bool, true, false, cond, ◌||◌, List, [], ◌∷◌, ◌++◌, Option, Some, None, Result, Ok, Err, ◌⊎◌, inl, inr, refl, sym, ap, subst, ◌∙◌, append_assoc, length, ◌<◌, ◌+◌, arith, length-append}
 use Rattle.cyp_grammar.specs.Lexemes.{Lexeme, Name, Said}
 use Rattle.cyp_grammar.specs.Spelling.{Any, At, Fits, IsEnd, Mark, Match, Then}
-use Rattle.cyp_grammar.specs.Readers.{AName, Difference, IsNamed, NoName, Read, Stop, Want, both, closed, closed_by, either, either_by, heads, mapped, option_after, option_by, pick_by, single, stop, token_or, ◌>>=◌}
+use Rattle.cyp_grammar.specs.Readers.{AName, IsNamed, NoName, Read, Stop, Want, both, closed, closed_by, either, either_by, heads, mapped, option_after, option_by, pick_by, single, stop, token_or, ◌>>=◌}
 use Rattle.cyp_grammar.proofs.Spellings.{append_nil, head_is, match_join, nil_left, then_join, then_put, then_split}
 
 abbrev pub SameHead : List Lexeme → List Lexeme → Type 0
@@ -22,19 +22,16 @@ Next rest w = SameHead rest w ⊎ IsNameFirst w
 abbrev pub Bars : Want → List Lexeme → List Lexeme → Type 0
 Bars AName rest w = SameHead rest w
 Bars NoName rest w = Next rest w
-Bars Difference rest w = SameHead rest w
 
 -- what is allowed there: a name where one is
 abbrev pub May : Want → List Lexeme → Type 0
 May n [] = Unit {0}
 May AName (t ∷ ts) = IsNamed t × (ts ≡ [])
 May NoName (t ∷ ts) = ⊥
-May Difference (t ∷ ts) = ⊥
 
 pub bars_next : (n : Want) (rest w : List Lexeme) → Bars n rest w → Next rest w
 bars_next AName rest w h = inl h
 bars_next NoName rest w h = h
-bars_next Difference rest w h = inl h
 
 pub next_append : (b x y : List Lexeme) → Next x y → Next (b ++ x) (b ++ y)
 next_append [] x y h = h

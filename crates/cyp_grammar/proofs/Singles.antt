@@ -2,7 +2,7 @@
 use Rattle.std.proofs.Common.{◌≡◌, ℕ, zero, suc, Bool, true, false, cond, ◌||◌, List, [], ◌∷◌, ◌++◌, Option, Some, None, Result, Ok, Err, ◌⊎◌, inl, inr, refl, sym, ap, subst, ◌∙◌, append_assoc, length, ◌<◌, ◌+◌, arith, length-append}
 use Rattle.cyp_grammar.specs.Lexemes.{Lexeme, Name, Said}
 use Rattle.cyp_grammar.specs.Spelling.{Any, At, Fits, IsEnd, Mark, Match, Then}
-use Rattle.cyp_grammar.specs.Readers.{AName, Difference, IsNamed, NoName, Read, Stop, Want, both, closed, closed_by, either, either_by, heads, mapped, option_after, option_by, pick_by, single, stop, token_or, ◌>>=◌}
+use Rattle.cyp_grammar.specs.Readers.{AName, IsNamed, NoName, Read, Stop, Want, both, closed, closed_by, either, either_by, heads, mapped, option_after, option_by, pick_by, single, stop, token_or, ◌>>=◌}
 use Rattle.cyp_grammar.proofs.Spellings.{append_nil, head_is, match_join, nil_left, then_join, then_put, then_split}
 use Rattle.cyp_grammar.proofs.Readings.{Apart, Avoids, Bars, May, Next, Reads, SameHead, Sound, Stuck, Took, Within, avoids_less, bars_next, less_reads, next_append, no_start, shorter}
 
@@ -10,15 +10,13 @@ use Rattle.cyp_grammar.proofs.Readings.{Apart, Avoids, Bars, May, Next, Reads, S
 abbrev pub Says : {A : Type 0} → (Lexeme → Option A) → Want → Type 0
 Says {A} tells AName = (t : Lexeme) → IsNamed t → (a : A) × (tells t ≡ Some a)
 Says {A} tells NoName = (t : Lexeme) (a : A) → IsNamed t → tells t ≡ Some a → ⊥
-Says {A} tells Difference = Unit {0}
 
-pub record IsSingle (A : Type 0) (tells : Lexeme → Option A) (mark : A → Mark) (starts : Said → Bool) (end : Want) (want : Lexeme → Want) : Type 0 where
+pub record IsSingle (A : Type 0) (tells : Lexeme → Option A) (mark : A → Mark) (starts : Said → Bool) (want : Want) : Type 0 where
   pub fits : (t : Lexeme) (a : A) → tells t ≡ Some a → Fits (mark a) t
   pub only : (t : Lexeme) (a : A) → Fits (mark a) t → tells t ≡ Some a
   pub starts_true : (t : Lexeme) (a : A) → tells t ≡ Some a → starts t.said ≡ true
   pub starts_some : (t : Lexeme) → starts t.said ≡ true → tells t ≡ None → ⊥
-  pub says : (t : Lexeme) → Says tells (want t)
-  pub says_end : Says tells end
+  pub says : Says tells want
   pub token : Lexeme
   pub value : A
   pub shows : tells token ≡ Some value
@@ -26,32 +24,26 @@ pub record IsSingle (A : Type 0) (tells : Lexeme → Option A) (mark : A → Mar
 abbrev pub one : {A : Type 0} → (A → Mark) → A → List Mark
 one mark a = mark a ∷ []
 
-single_viable : {A : Type 0} (tells : Lexeme → Option A) (mark : A → Mark) (starts : Said → Bool) (end : Want) (want : Lexeme → Want) (S : IsSingle A tells mark starts end want)
+single_viable : {A : Type 0} (tells : Lexeme → Option A) (mark : A → Mark) (starts : Said → Bool) (want : Want) (S : IsSingle A tells mark starts want)
     (n : Want) → Says tells n → (K : List Lexeme → Type 0) (k : List Lexeme) → K k → (u : List Lexeme) → May n u → (w : List Lexeme) × (y : A) × Then (one mark y) K (u ++ w)
-single_viable tells mark starts end want S n says K k h [] m = (S.token ∷ k, S.value, (S.fits S.token S.value S.shows, h))
-single_viable tells mark starts end want S AName says K k h (t ∷ us) m =
+single_viable tells mark starts want S n says K k h [] m = (S.token ∷ k, S.value, (S.fits S.token S.value S.shows, h))
+single_viable tells mark starts want S AName says K k h (t ∷ us) m =
     let a = says t m.0 in
     (k, a.0, (S.fits t a.0 a.1, subst (λ (v : List Lexeme). K (v ++ k)) (sym m.1) h))
-single_viable tells mark starts end want S NoName says K k h (t ∷ us) m = absurd m
-single_viable tells mark starts end want S Difference says K k h (t ∷ us) m = absurd m
+single_viable tells mark starts want S NoName says K k h (t ∷ us) m = absurd m
 
-single_none : {A : Type 0} (tells : Lexeme → Option A) (mark : A → Mark) (starts : Said → Bool) (end : Want) (want : Lexeme → Want) (S : IsSingle A tells mark starts end want)
+single_none : {A : Type 0} (tells : Lexeme → Option A) (mark : A → Mark) (starts : Said → Bool) (want : Want) (S : IsSingle A tells mark starts want)
     (n : Want) → Says tells n → (ts : List Lexeme) → ((t : Lexeme) (us : List Lexeme) → ts ≡ t ∷ us → tells t ≡ None)
     → (K : List Lexeme → Type 0) (w : List Lexeme) → Bars n ts w → (y : A) → Then (one mark y) K w → ⊥
-single_none tells mark starts end want S n says ts none_of K [] b y h = h
-single_none tells mark starts end want S AName says [] none_of K (u ∷ w) b y h = b
-single_none tells mark starts end want S AName says (t ∷ ts) none_of K (u ∷ w) b y h =
+single_none tells mark starts want S n says ts none_of K [] b y h = h
+single_none tells mark starts want S AName says [] none_of K (u ∷ w) b y h = b
+single_none tells mark starts want S AName says (t ∷ ts) none_of K (u ∷ w) b y h =
     let e : tells t ≡ None = none_of t ts refl in
     let f = S.only u y h.0 in
     cc (e, f, ap tells b)
-single_none tells mark starts end want S Difference says [] none_of K (u ∷ w) b y h = b
-single_none tells mark starts end want S Difference says (t ∷ ts) none_of K (u ∷ w) b y h =
-    let e : tells t ≡ None = none_of t ts refl in
-    let f = S.only u y h.0 in
-    cc (e, f, ap tells b)
-single_none tells mark starts end want S NoName says ts none_of K (u ∷ w) (inr b) y h = says u y b (S.only u y h.0)
-single_none tells mark starts end want S NoName says [] none_of K (u ∷ w) (inl b) y h = b
-single_none tells mark starts end want S NoName says (t ∷ ts) none_of K (u ∷ w) (inl b) y h =
+single_none tells mark starts want S NoName says ts none_of K (u ∷ w) (inr b) y h = says u y b (S.only u y h.0)
+single_none tells mark starts want S NoName says [] none_of K (u ∷ w) (inl b) y h = b
+single_none tells mark starts want S NoName says (t ∷ ts) none_of K (u ∷ w) (inl b) y h =
     let e : tells t ≡ None = none_of t ts refl in
     let f = S.only u y h.0 in
     cc (e, f, ap tells b)
@@ -62,27 +54,27 @@ some_of x = Some x
 pub some_is : {A : Type 0} (x y : A) → some_of x ≡ some_of y → x ≡ y
 some_is x y e = cc
 
-single_sound : {A : Type 0} (tells : Lexeme → Option A) (mark : A → Mark) (starts ends : Said → Bool) (end : Want) (want : Lexeme → Want) (S : IsSingle A tells mark starts end want)
-    (t : Lexeme) (ts : List Lexeme) (o : Option A) → tells t ≡ o → Sound A (one mark) starts ends (t ∷ ts) (token_or o (want t) t ts)
-single_sound tells mark starts ends end want S t ts None e = record {
+single_sound : {A : Type 0} (tells : Lexeme → Option A) (mark : A → Mark) (starts ends : Said → Bool) (want : Want) (S : IsSingle A tells mark starts want)
+    (t : Lexeme) (ts : List Lexeme) (o : Option A) → tells t ≡ o → Sound A (one mark) starts ends (t ∷ ts) (token_or o want t ts)
+single_sound tells mark starts ends want S t ts None e = record {
   before = [];
   rest = t ∷ ts;
   left = refl;
   parts = refl;
   begun = λ u us eq st nil. S.starts_some t (subst (λ (v : Lexeme). starts v.said ≡ true) (sym (head_is t u ts us eq)) st) e;
-  viable = λ K k h u m. single_viable tells mark starts end want S (want t) (S.says t) K k h u m;
-  none = λ K av w b y h. single_none tells mark starts end want S (want t) (S.says t) (t ∷ ts) (λ u us eq. ap tells (sym (head_is t u ts us eq)) ∙ e) K w b y h;
+  viable = λ K k h u m. single_viable tells mark starts want S want S.says K k h u m;
+  none = λ K av w b y h. single_none tells mark starts want S want S.says (t ∷ ts) (λ u us eq. ap tells (sym (head_is t u ts us eq)) ∙ e) K w b y h;
 }
-single_sound tells mark starts ends end want S t ts (Some a) e = record {
+single_sound tells mark starts ends want S t ts (Some a) e = record {
   front = t ∷ [];
   parts = refl;
   matched = (S.fits t a e, refl);
   only = λ K av w n y h. (some_is y a (sym (S.only t y h.0) ∙ e), h.1);
 }
 
-pub single_reads : {A : Type 0} (tells : Lexeme → Option A) (mark : A → Mark) (starts : Said → Bool) (end : Want) (want : Lexeme → Want) (ends : Said → Bool)
-    (n : ℕ) → IsSingle A tells mark starts end want → Reads n A (one mark) starts ends (single tells end want)
-single_reads {A} tells mark starts end want ends n S = record {
+pub single_reads : {A : Type 0} (tells : Lexeme → Option A) (mark : A → Mark) (starts : Said → Bool) (want : Want) (ends : Said → Bool)
+    (n : ℕ) → IsSingle A tells mark starts want → Reads n A (one mark) starts ends (single tells want)
+single_reads {A} tells mark starts want ends n S = record {
   sound = λ ts short. all ts;
   first = λ x K t w h. S.starts_true t x (S.only t x h.0);
   full = λ x K h. h;
@@ -91,14 +83,14 @@ single_reads {A} tells mark starts end want ends n S = record {
   is_some = (S.fits S.token S.value S.shows, refl);
 }
   where
-    all : (ts : List Lexeme) → Sound A (one mark) starts ends ts (single tells end want ts)
+    all : (ts : List Lexeme) → Sound A (one mark) starts ends ts (single tells want ts)
     all [] = record {
       before = [];
       rest = [];
       left = refl;
       parts = refl;
       begun = λ u us eq st nil. cc;
-      viable = λ K k h u m. single_viable tells mark starts end want S end S.says_end K k h u m;
-      none = λ K av w b y h. single_none tells mark starts end want S end S.says_end [] (λ u us eq. absurd cc) K w b y h;
+      viable = λ K k h u m. single_viable tells mark starts want S want S.says K k h u m;
+      none = λ K av w b y h. single_none tells mark starts want S want S.says [] (λ u us eq. absurd cc) K w b y h;
     }
-    all (t ∷ ts) = single_sound tells mark starts ends end want S t ts (tells t) refl
+    all (t ∷ ts) = single_sound tells mark starts ends want S t ts (tells t) refl

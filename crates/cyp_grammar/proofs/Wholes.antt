@@ -2,7 +2,7 @@
 use Rattle.std.proofs.Common.{◌≡◌, ℕ, zero, suc, Bool, true, false, cond, ◌||◌, List, [], ◌∷◌, ◌++◌, Option, Some, None, Result, Ok, Err, ◌⊎◌, inl, inr, refl, sym, ap, subst, ◌∙◌, append_assoc, length, ◌<◌, ◌+◌, arith, length-append}
 use Rattle.cyp_grammar.specs.Lexemes.{Lexeme, Name, Said}
 use Rattle.cyp_grammar.specs.Spelling.{Any, At, Fits, IsEnd, Mark, Match, Then, list_spelling, more_spelling}
-use Rattle.cyp_grammar.specs.Readers.{AName, Difference, IsNamed, NoName, Read, Stop, Want, both, closed, closed_by, either, either_by, heads, mapped, option_after, option_by, pick_by, cons_of, kind_tells, listed, listing, no_name, token, single, stop, token_or, ◌>>=◌}
+use Rattle.cyp_grammar.specs.Readers.{AName, IsNamed, NoName, Read, Stop, Want, both, closed, closed_by, either, either_by, heads, mapped, option_after, option_by, pick_by, cons_of, kind_tells, listed, listing, token, single, stop, token_or, ◌>>=◌}
 use Rattle.cyp_grammar.proofs.Spellings.{append_nil, head_is, match_join, nil_left, then_join, then_put, then_split}
 use Rattle.cyp_grammar.proofs.Readings.{Apart, Avoids, Bars, May, Next, Reads, SameHead, Sound, Stuck, Took, Within, avoids_less, bars_next, less_reads, next_append, no_start, shorter}
 use Rattle.cyp_grammar.proofs.Sequences.{both_reads, spell_both, then_reads}
@@ -61,12 +61,10 @@ stuck_end {A} sp s f ts e h = record {
     bars_same : (x : Want) (t : Lexeme) (us w : List Lexeme) → Bars x (t ∷ us) (t ∷ w)
     bars_same AName t us w = refl
     bars_same NoName t us w = inl refl
-    bars_same Difference t us w = refl
 
     bars_end : (x : Want) → Bars x [] []
     bars_end AName = tt
     bars_end NoName = inl tt
-    bars_end Difference = tt
 
     refused_by : (rest : List Lexeme) → ((w : List Lexeme) → Bars e.want rest w → (y : A) → Then (sp y) IsEnd (h.before ++ w) → ⊥) → Refused sp h.before rest
     refused_by [] no_more = λ y m. no_more [] (bars_end e.want) y (subst (λ (v : List Lexeme). Match (sp y) v) (sym (append_nil h.before)) m)

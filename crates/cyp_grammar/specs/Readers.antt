@@ -3,9 +3,9 @@ use Rattle.std.specs.Prelude.{Bool, Err, List, None, Ok, Option, Result, Some, [
 use Rattle.std.proofs.Common.{inl, inr}
 use Rattle.cyp_grammar.specs.Lexemes.{Lexeme, Name, Said}
 
--- what is allowed where a reader stops: a name, or no name, or nothing is said of names
+-- what is allowed where a reader stops: a name, or no name
 pub data Want : Type 0 where
-  AName NoName Difference : Want
+  AName NoName : Want
 
 -- a reader stopped before so many lexemes that are left
 pub record Stop : Type 0 where
@@ -37,9 +37,9 @@ abbrev pub token_or : {A : Type 0} → Option A → Want → Lexeme → List Lex
 token_or None n t ts = stop n (t ∷ ts)
 token_or (Some a) n t ts = Ok (a, ts)
 
-abbrev pub single : {A : Type 0} → (Lexeme → Option A) → Want → (Lexeme → Want) → List Lexeme → Read A
-single tells end want [] = stop end []
-single tells end want (t ∷ ts) = token_or (tells t) (want t) t ts
+abbrev pub single : {A : Type 0} → (Lexeme → Option A) → Want → List Lexeme → Read A
+single tells want [] = stop want []
+single tells want (t ∷ ts) = token_or (tells t) want t ts
 
 -- one after the other
 abbrev pub both : {A B : Type 0} → (List Lexeme → Read A) → (List Lexeme → Read B) → List Lexeme → Read (A × B)
@@ -50,7 +50,7 @@ mapped g p ts = p ts >>= λ x. Ok (g x.0, x.1)
 
 -- no token may follow that would go on
 abbrev pub closed_by : {A : Type 0} → A → List Lexeme → Bool → Read A
-closed_by x rest true = stop Difference rest
+closed_by x rest true = stop NoName rest
 closed_by x rest false = Ok (x, rest)
 
 abbrev pub closed : {A : Type 0} → (Said → Bool) → (List Lexeme → Read A) → List Lexeme → Read A
@@ -95,8 +95,5 @@ listing is sep p ts = listed (suc (length ts)) is sep p ts
 abbrev pub kind_tells : (Said → Bool) → Lexeme → Option (Unit {0})
 kind_tells is t = cond (is t.said) (Some tt) None
 
-abbrev pub no_name : Lexeme → Want
-no_name t = NoName
-
 abbrev pub token : (Said → Bool) → List Lexeme → Read (Unit {0})
-token is ts = single (kind_tells is) NoName no_name ts
+token is ts = single (kind_tells is) NoName ts
