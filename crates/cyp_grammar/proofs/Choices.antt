@@ -124,10 +124,10 @@ right_sound {A} {B} spA sA spB sB fB f want starts pick C full inB t us st pk (E
         let g = agrees t us h.before h.rest w h.parts not_nil (bars_next s.want h.rest w b) in
         C.not_left t us g.tail st pk g.next c K (subst (λ (v : List Lexeme). Then (spA c) K v) g.is hy)
 
-pub either_reads : {A B : Type 0} (spA : A → List Mark) (sA fA : Said → Bool) (p : List Lexeme → Read A) (spB : B → List Mark) (sB fB f : Said → Bool) (q : List Lexeme → Read B)
-    (want : Want) (starts : Said → Bool) (pick : List Lexeme → Bool) (n : ℕ) → Reads n A spA sA fA p → Reads n B spB sB fB q → IsChoice A B spA sA spB sB want starts pick → Within fA f → Within fB f
+pub either_reads : {A B : Type 0} {spA : A → List Mark} {sA fA : Said → Bool} {p : List Lexeme → Read A} {spB : B → List Mark} {sB fB f : Said → Bool} {q : List Lexeme → Read B}
+    {want : Want} {starts : Said → Bool} {pick : List Lexeme → Bool} {n : ℕ} → Reads n A spA sA fA p → Reads n B spB sB fB q → IsChoice A B spA sA spB sB want starts pick → Within fA f → Within fB f
     → Reads n (A ⊎ B) (spell_either spA spB) starts f (either want starts pick p q)
-either_reads {A} {B} spA sA fA p spB sB fB f q want starts pick n P Q C inA inB = record {
+either_reads {A} {B} {spA} {sA} {fA} {p} {spB} {sB} {fB} {f} {q} {want} {starts} {pick} {n} P Q C inA inB = record {
   sound = λ ts short. by_start ts short (heads starts ts) refl;
   first = first_of;
   full = full_of;

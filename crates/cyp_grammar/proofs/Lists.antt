@@ -4,7 +4,7 @@ use Rattle.cyp_grammar.specs.Lexemes.{Lexeme, Name, Said}
 use Rattle.cyp_grammar.specs.Spelling.{Any, At, Fits, IsEnd, Mark, Match, Then, list_spelling, more_spelling}
 use Rattle.cyp_grammar.specs.Readers.{AName, IsNamed, NoName, Read, Stop, Want, both, closed, closed_by, either, either_by, heads, mapped, option_after, option_by, pick_by, cons_of, kind_tells, listed, listing, token, single, stop, token_or, ◌>>=◌}
 use Rattle.cyp_grammar.proofs.Spellings.{append_nil, head_is, match_join, nil_left, then_join, then_put, then_split}
-use Rattle.cyp_grammar.proofs.Readings.{Apart, Avoids, Bars, May, Next, Reads, SameHead, Sound, Stuck, Took, Within, avoids_less, bars_next, less_reads, next_append, no_start, shorter}
+use Rattle.cyp_grammar.proofs.Readings.{none, nowhere, Apart, Avoids, Bars, May, Next, Reads, SameHead, Sound, Stuck, Took, Within, avoids_less, bars_next, less_reads, next_append, no_start, shorter}
 use Rattle.cyp_grammar.proofs.Sequences.{both_reads, spell_both, then_reads}
 use Rattle.cyp_grammar.proofs.Singles.{IsSingle, Says, one, single_reads}
 use Rattle.cyp_grammar.proofs.Mapped.{mapped_reads}
@@ -39,8 +39,8 @@ kind_single k is yes_k only name = record {
   shows = rw yes_k refl;
 }
 
-pub token_reads : (k : Said) (is ends : Said → Bool) (n : ℕ) → is k ≡ true → ((j : Said) → is j ≡ true → j ≡ k) → ((x : List ℕ) → is (Name x) ≡ false) → Reads n (Unit {0}) (one (kind_mark k)) is ends (token is)
-token_reads k is ends n yes_k only name = single_reads (kind_tells is) (kind_mark k) is NoName ends n (kind_single k is yes_k only name)
+pub token_reads : {k : Said} {is ends : Said → Bool} {n : ℕ} → is k ≡ true → ((j : Said) → is j ≡ true → j ≡ k) → ((x : List ℕ) → is (Name x) ≡ false) → Reads n (Unit {0}) (one (kind_mark k)) is ends (token is)
+token_reads {k} {is} {ends} {n} yes_k only name = single_reads (kind_single k is yes_k only name)
 
 -- one or more as a pair
 abbrev pub listed_spelling : {A : Type 0} → Said → (A → List Mark) → A × List A → List Mark
@@ -53,10 +53,10 @@ uncons {A} x = from x.0 x.1
     from a [] = (a, None)
     from a (b ∷ bs) = (a, Some (tt, (b, bs)))
 
-pub listed_reads : {A : Type 0} (sp : A → List Mark) (sA fA f : Said → Bool) (p : List Lexeme → Read A) (k : Said) (is : Said → Bool)
+pub listed_reads : {A : Type 0} {sp : A → List Mark} {sA fA f : Said → Bool} {p : List Lexeme → Read A} {k : Said} {is : Said → Bool}
     → is k ≡ true → ((j : Said) → is j ≡ true → j ≡ k) → ((x : List ℕ) → is (Name x) ≡ false) → Apart is fA → Within fA f → Within is f → Apart sA is → (n : ℕ) → ((m : ℕ) → Reads m A sp sA fA p)
     → Reads n (A × List A) (listed_spelling k sp) sA f (listed n is (token is) p)
-listed_reads {A} sp sA fA f p k is yes_k only name sep inA inS apart zero P = record {
+listed_reads {A} {sp} {sA} {fA} {f} {p} {k} {is} yes_k only name sep inA inS apart zero P = record {
   sound = λ ts short. absurd (omega arith);
   first = λ x K t w h. (P 0).first x.0 (Then (more_spelling k sp x.1) K) t w (split x K (t ∷ w) h);
   full = λ x K h. (P 0).full x.0 (Then (more_spelling k sp x.1) K) (split x K [] h);
@@ -67,13 +67,9 @@ listed_reads {A} sp sA fA f p k is yes_k only name sep inA inS apart zero P = re
   where
     split : (x : A × List A) (K : List Lexeme → Type 0) (ts : List Lexeme) → Then (list_spelling k sp x.0 x.1) K ts → Then (sp x.0) (Then (more_spelling k sp x.1) K) ts
     split x K ts h = then_split (sp x.0) (more_spelling k sp x.1) K ts h
-listed_reads {A} sp sA fA f p k is yes_k only name sep inA inS apart (suc n) P =
-    mapped_reads (spell_option sp (spell_both (one (kind_mark k)) (listed_spelling k sp))) sA f (option_after is p (both (token is) (listed n is (token is) p))) (listed_spelling k sp) cons_of uncons
-    (λ x. there x.0 x.1) (λ x. again x.0 x.1) (λ x. same x.0 x.1) (suc n)
-    (option_reads sp sA fA p (spell_both (one (kind_mark k)) (listed_spelling k sp)) is f f (both (token is) (listed n is (token is) p)) n (P (suc n))
-    (both_reads (one (kind_mark k)) is (λ j. false) (token is) (listed_spelling k sp) sA f (listed n is (token is) p) n (token_reads k is (λ j. false) n yes_k only name)
-    (listed_reads sp sA fA f p k is yes_k only name sep inA inS apart n P) (λ j e. refl))
-    sep inA (λ j e. e) inS name)
+listed_reads {A} {sp} {sA} {fA} {f} {p} {k} {is} yes_k only name sep inA inS apart (suc n) P =
+    mapped_reads cons_of uncons (λ x. there x.0 x.1) (λ x. again x.0 x.1) (λ x. same x.0 x.1)
+    (option_reads (P (suc n)) (both_reads (token_reads {k = k} {is = is} {ends = none} yes_k only name) (listed_reads yes_k only name sep inA inS apart n P) (λ j e. refl)) sep inA (λ j e. e) inS name)
   where
     there : (a : A) (o : Option (Unit {0} × (A × List A))) → uncons (cons_of (a, o)) ≡ (a, o)
     there a None = refl
@@ -87,11 +83,11 @@ listed_reads {A} sp sA fA f p k is yes_k only name sep inA inS apart (suc n) P =
     same a [] = refl
     same a (b ∷ bs) = refl
 
-pub listing_reads : {A : Type 0} (sp : A → List Mark) (sA fA f : Said → Bool) (p : List Lexeme → Read A) (k : Said) (is : Said → Bool)
+pub listing_reads : {A : Type 0} {sp : A → List Mark} {sA fA f : Said → Bool} {p : List Lexeme → Read A} {k : Said} {is : Said → Bool}
     → is k ≡ true → ((j : Said) → is j ≡ true → j ≡ k) → ((x : List ℕ) → is (Name x) ≡ false) → Apart is fA → Within fA f → Within is f → Apart sA is → ((m : ℕ) → Reads m A sp sA fA p) → (n : ℕ)
     → Reads n (A × List A) (listed_spelling k sp) sA f (listing is (token is) p)
-listing_reads sp sA fA f p k is is_so only name sep inA inS apart P n =
-    let L = λ (m : ℕ). listed_reads sp sA fA f p k is is_so only name sep inA inS apart m P in
+listing_reads {A} {sp} {sA} {fA} {f} {p} {k} {is} is_so only name sep inA inS apart P n =
+    let L = λ (m : ℕ). listed_reads {A = A} {sp = sp} {sA = sA} {fA = fA} {f = f} {p = p} {k = k} {is = is} is_so only name sep inA inS apart m P in
     record {
       sound = λ ts short. (L (suc (length ts))).sound ts (omega arith);
       first = (L 0).first;

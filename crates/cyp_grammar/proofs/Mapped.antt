@@ -6,9 +6,9 @@ use Rattle.cyp_grammar.specs.Readers.{AName, IsNamed, NoName, Read, Stop, Want, 
 use Rattle.cyp_grammar.proofs.Spellings.{append_nil, head_is, match_join, nil_left, then_join, then_put, then_split}
 use Rattle.cyp_grammar.proofs.Readings.{Apart, Avoids, Bars, May, Next, Reads, SameHead, Sound, Stuck, Took, Within, avoids_less, bars_next, less_reads, next_append, no_start, shorter}
 
-pub mapped_reads : {A B : Type 0} (spA : A → List Mark) (s f : Said → Bool) (p : List Lexeme → Read A) (spB : B → List Mark) (to : A → B) (back : B → A)
-    → ((x : A) → back (to x) ≡ x) → ((y : B) → to (back y) ≡ y) → ((y : B) → spB y ≡ spA (back y)) → (n : ℕ) → Reads n A spA s f p → Reads n B spB s f (mapped to p)
-mapped_reads {A} {B} spA s f p spB to back there again same n P = record {
+pub mapped_reads : {A B : Type 0} {spA : A → List Mark} {s f : Said → Bool} {p : List Lexeme → Read A} {spB : B → List Mark} {n : ℕ} (to : A → B) (back : B → A)
+    → ((x : A) → back (to x) ≡ x) → ((y : B) → to (back y) ≡ y) → ((y : B) → spB y ≡ spA (back y)) → Reads n A spA s f p → Reads n B spB s f (mapped to p)
+mapped_reads {A} {B} {spA} {s} {f} {p} {spB} {n} to back there again same P = record {
   sound = λ ts short. of ts (p ts) (P.sound ts short);
   first = λ y K t w h. P.first (back y) K t w (turn y K (t ∷ w) h);
   full = λ y K h. P.full (back y) K (turn y K [] h);
@@ -78,9 +78,9 @@ closed_any : {A : Type 0} (sp : A → List Mark) (s f test : Said → Bool) (p :
 closed_any sp s f test p n P sub name ts (Ok x) h = closed_sound sp s f test p n P sub name ts x.0 x.1 h (heads test x.1) refl
 closed_any sp s f test p n P sub name ts (Err e) h = h
 
-pub closed_reads : {A : Type 0} (sp : A → List Mark) (s f test : Said → Bool) (p : List Lexeme → Read A) (n : ℕ) → Reads n A sp s f p
+pub closed_reads : {A : Type 0} {sp : A → List Mark} {s f test : Said → Bool} {p : List Lexeme → Read A} {n : ℕ} → Reads n A sp s f p
     → Within test f → ((x : List ℕ) → f (Name x) ≡ true) → Reads n A sp s f (closed test p)
-closed_reads sp s f test p n P sub name = record {
+closed_reads {A} {sp} {s} {f} {test} {p} {n} P sub name = record {
   sound = λ ts short. closed_any sp s f test p n P sub name ts (p ts) (P.sound ts short);
   first = P.first;
   full = P.full;

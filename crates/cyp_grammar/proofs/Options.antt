@@ -140,10 +140,10 @@ option_any {A} {B} spA sA fA p spB sB fB f q n P Q sep inA inB inS name ts short
     by_part K av w b a None hy = h.none K (avoids_less fA f K inA av) w b a (subst (λ (m : List Mark). Then m K (h.before ++ w)) (append_nil (spA a)) hy)
     by_part K av w b a (Some c) hy = h.none (Then (spB c) K) (λ t us l. sep t.said (Q.first c K t us l)) w b a (then_split (spA a) (spB c) K (h.before ++ w) hy)
 
-pub option_reads : {A B : Type 0} (spA : A → List Mark) (sA fA : Said → Bool) (p : List Lexeme → Read A) (spB : B → List Mark) (sB fB f : Said → Bool) (q : List Lexeme → Read B)
-    (n : ℕ) → Reads (suc n) A spA sA fA p → Reads n B spB sB fB q → Apart sB fA → Within fA f → Within fB f → Within sB f → ((x : List ℕ) → sB (Name x) ≡ false)
+pub option_reads : {A B : Type 0} {spA : A → List Mark} {sA fA : Said → Bool} {p : List Lexeme → Read A} {spB : B → List Mark} {sB fB f : Said → Bool} {q : List Lexeme → Read B} {n : ℕ}
+    → Reads (suc n) A spA sA fA p → Reads n B spB sB fB q → Apart sB fA → Within fA f → Within fB f → Within sB f → ((x : List ℕ) → sB (Name x) ≡ false)
     → Reads (suc n) (A × Option B) (spell_option spA spB) sA f (option_after sB p q)
-option_reads spA sA fA p spB sB fB f q n P Q sep inA inB inS name = record {
+option_reads {A} {B} {spA} {sA} {fA} {p} {spB} {sB} {fB} {f} {q} {n} P Q sep inA inB inS name = record {
   sound = λ ts short. option_any spA sA fA p spB sB fB f q n P Q sep inA inB inS name ts short (p ts) (P.sound ts short);
   first = λ x K t w h. P.first x.0 (Then (spell_maybe spB x.1) K) t w (then_split (spA x.0) (spell_maybe spB x.1) K (t ∷ w) h);
   full = λ x K h. P.full x.0 (Then (spell_maybe spB x.1) K) (then_split (spA x.0) (spell_maybe spB x.1) K [] h);

@@ -97,8 +97,8 @@ no_start test rest (u ∷ w) name head (inr n) t us e is_so =
     let same : u ≡ t = head_is u t w us e in
     cc (ap test n.1, name n.0, ap (λ (x : Lexeme). test x.said) same, is_so)
 
-pub less_reads : {A : Type 0} (sp : A → List Mark) (s f : Said → Bool) (p : List Lexeme → Read A) (n : ℕ) → Reads (suc n) A sp s f p → Reads n A sp s f p
-less_reads sp s f p n P = record {
+pub less_reads : {A : Type 0} {sp : A → List Mark} {s f : Said → Bool} {p : List Lexeme → Read A} {n : ℕ} → Reads (suc n) A sp s f p → Reads n A sp s f p
+less_reads P = record {
   sound = λ ts short. P.sound ts (omega arith);
   first = P.first;
   full = P.full;
@@ -106,3 +106,16 @@ less_reads sp s f p n P = record {
   shown = P.shown;
   is_some = P.is_some;
 }
+
+-- no lexeme
+abbrev pub none : Said → Bool
+none k = false
+
+pub nowhere : (f : Said → Bool) → Within none f
+nowhere f k e = absurd cc
+
+pub apart_none : (f : Said → Bool) → Apart f none
+apart_none f k e = refl
+
+pub within_self : (f : Said → Bool) → Within f f
+within_self f k e = e

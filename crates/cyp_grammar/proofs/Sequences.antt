@@ -63,9 +63,9 @@ both_sound spA sA fA p spB sB fB q n P Q sep ts short (Err s) h = record {
 first_of_both : (a b : List Mark) (K : List Lexeme → Type 0) (P : Type 0) (ts : List Lexeme) → (Then a (Then b K) ts → P) → Then (a ++ b) K ts → P
 first_of_both a b K P ts f h = f (then_split a b K ts h)
 
-pub both_reads : {A B : Type 0} (spA : A → List Mark) (sA fA : Said → Bool) (p : List Lexeme → Read A) (spB : B → List Mark) (sB fB : Said → Bool) (q : List Lexeme → Read B)
-    (n : ℕ) → Reads n A spA sA fA p → Reads n B spB sB fB q → Apart sB fA → Reads n (A × B) (spell_both spA spB) sA fB (both p q)
-both_reads spA sA fA p spB sB fB q n P Q sep = record {
+pub both_reads : {A B : Type 0} {spA : A → List Mark} {sA fA : Said → Bool} {p : List Lexeme → Read A} {spB : B → List Mark} {sB fB : Said → Bool} {q : List Lexeme → Read B} {n : ℕ}
+    → Reads n A spA sA fA p → Reads n B spB sB fB q → Apart sB fA → Reads n (A × B) (spell_both spA spB) sA fB (both p q)
+both_reads {A} {B} {spA} {sA} {fA} {p} {spB} {sB} {fB} {q} {n} P Q sep = record {
   sound = λ ts short. both_sound spA sA fA p spB sB fB q n P Q sep ts short (p ts) (P.sound ts short);
   first = λ x K t w h. P.first x.0 (Then (spB x.1) K) t w (then_split (spA x.0) (spB x.1) K (t ∷ w) h);
   full = λ x K h. P.full x.0 (Then (spB x.1) K) (then_split (spA x.0) (spB x.1) K [] h);
@@ -75,9 +75,9 @@ both_reads spA sA fA p spB sB fB q n P Q sep = record {
 }
 
 -- the second part is read where fewer tokens are left
-pub then_reads : {A B : Type 0} (spA : A → List Mark) (sA fA : Said → Bool) (p : List Lexeme → Read A) (spB : B → List Mark) (sB fB : Said → Bool) (q : List Lexeme → Read B)
-    (n : ℕ) → Reads (suc n) A spA sA fA p → Reads n B spB sB fB q → Apart sB fA → Reads (suc n) (A × B) (spell_both spA spB) sA fB (both p q)
-then_reads {A} {B} spA sA fA p spB sB fB q n P Q sep = record {
+pub then_reads : {A B : Type 0} {spA : A → List Mark} {sA fA : Said → Bool} {p : List Lexeme → Read A} {spB : B → List Mark} {sB fB : Said → Bool} {q : List Lexeme → Read B} {n : ℕ}
+    → Reads (suc n) A spA sA fA p → Reads n B spB sB fB q → Apart sB fA → Reads (suc n) (A × B) (spell_both spA spB) sA fB (both p q)
+then_reads {A} {B} {spA} {sA} {fA} {p} {spB} {sB} {fB} {q} {n} P Q sep = record {
   sound = λ ts short. step ts short (p ts) (P.sound ts short);
   first = λ x K t w h. P.first x.0 (Then (spB x.1) K) t w (then_split (spA x.0) (spB x.1) K (t ∷ w) h);
   full = λ x K h. P.full x.0 (Then (spB x.1) K) (then_split (spA x.0) (spB x.1) K [] h);
@@ -91,7 +91,7 @@ then_reads {A} {B} spA sA fA p spB sB fB q n P Q sep = record {
     fewer ts x rest (u ∷ front) short e m = omega (arith, ap length e, length-append (u ∷ front) rest, short)
 
     step : (ts : List Lexeme) → length ts < suc n → (r : Read A) → Sound A spA sA fA ts r → Sound (A × B) (spell_both spA spB) sA fB ts (r >>= λ x. q x.1 >>= λ y. Ok ((x.0, y.0), y.1))
-    step ts short (Ok x) h = both_ok spA sA fA p spB sB fB q n (less_reads spA sA fA p n P) Q sep ts x.0 x.1 h (q x.1) (Q.sound x.1 (fewer ts x.0 x.1 h.front short h.parts h.matched))
+    step ts short (Ok x) h = both_ok spA sA fA p spB sB fB q n (less_reads P) Q sep ts x.0 x.1 h (q x.1) (Q.sound x.1 (fewer ts x.0 x.1 h.front short h.parts h.matched))
     step ts short (Err s) h = record {
       before = h.before;
       rest = h.rest;

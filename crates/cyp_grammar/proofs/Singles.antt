@@ -72,9 +72,9 @@ single_sound tells mark starts ends want S t ts (Some a) e = record {
   only = λ K av w n y h. (some_is y a (sym (S.only t y h.0) ∙ e), h.1);
 }
 
-pub single_reads : {A : Type 0} (tells : Lexeme → Option A) (mark : A → Mark) (starts : Said → Bool) (want : Want) (ends : Said → Bool)
-    (n : ℕ) → IsSingle A tells mark starts want → Reads n A (one mark) starts ends (single tells want)
-single_reads {A} tells mark starts want ends n S = record {
+pub single_reads : {A : Type 0} {tells : Lexeme → Option A} {mark : A → Mark} {starts : Said → Bool} {want : Want} {ends : Said → Bool} {n : ℕ}
+    → IsSingle A tells mark starts want → Reads n A (one mark) starts ends (single tells want)
+single_reads {A} {tells} {mark} {starts} {want} {ends} {n} S = record {
   sound = λ ts short. all ts;
   first = λ x K t w h. S.starts_true t x (S.only t x h.0);
   full = λ x K h. h;

@@ -79,8 +79,8 @@ any_end : {A : Type 0} (sp : A → List Mark) (s f : Said → Bool) (ts : List L
 any_end sp s f ts (Ok x) h = took_end sp f ts x.0 x.1 h
 any_end sp s f ts (Err e) h = stuck_end sp s f ts e h
 
-pub whole_reads : {A : Type 0} (sp : A → List Mark) (s f : Said → Bool) (p : List Lexeme → Read A) → ((n : ℕ) → Reads n A sp s f p) → (ts : List Lexeme) → IsReading sp ts (whole_of p ts)
-whole_reads sp s f p P ts = any_end sp s f ts (p ts) ((P (suc (length ts))).sound ts (omega arith))
+pub whole_reads : {A : Type 0} {sp : A → List Mark} {s f : Said → Bool} {p : List Lexeme → Read A} → ((n : ℕ) → Reads n A sp s f p) → (ts : List Lexeme) → IsReading sp ts (whole_of p ts)
+whole_reads {A} {sp} {s} {f} {p} P ts = any_end sp s f ts (p ts) ((P (suc (length ts))).sound ts (omega arith))
 
 abbrev ok_of : {A : Type 0} → A → Result A Stop
 ok_of x = Ok x
