@@ -1,3 +1,4 @@
+pub mod SameSigns
 pub mod Spellings
 pub mod Readings
 pub mod Sequences
@@ -6,4 +7,6 @@ pub mod Mapped
 pub mod Options
 pub mod Choices
 pub mod Lists
+pub mod Tellers
+pub mod Firsts
 pub mod Wholes

@@ -48,7 +48,7 @@ single_none tells mark starts want S NoName says (t ∷ ts) none_of K (u ∷ w) 
     let f = S.only u y h.0 in
     cc (e, f, ap tells b)
 
-abbrev some_of : {A : Type 0} → A → Option A
+abbrev pub some_of : {A : Type 0} → A → Option A
 some_of x = Some x
 
 pub some_is : {A : Type 0} (x y : A) → some_of x ≡ some_of y → x ≡ y

@@ -1,7 +1,11 @@
 -- Readers on lists of lexemes: the value and the lexemes after it, or the place where the reader stops.
-use Rattle.std.specs.Prelude.{Bool, Err, List, None, Ok, Option, Result, Some, [], cond, false, length, suc, true, zero, ◌∷◌, ◌≡◌, ◌⊎◌, ℕ}
+use Rattle.std.specs.Prelude.{◌||◌, Bool, Err, List, None, Ok, Option, Result, Some, [], cond, false, length, suc, true, zero, ◌∷◌, ◌≡◌, ◌⊎◌, ℕ}
 use Rattle.std.proofs.Common.{inl, inr}
-use Rattle.cyp_grammar.specs.Lexemes.{Lexeme, Name, Said}
+use Rattle.cyp_lex.specs.declared.token.Sign.{Sign}
+use Rattle.cyp_lex.specs.declared.token.Word.{Word}
+use Rattle.cyp_grammar.specs.Lexemes.{Lexeme, Name, Number, Reserved, Said, Symbol}
+use Rattle.cyp_grammar.specs.SameSigns.{same_sign, same_word}
+use Rattle.cyp_grammar.specs.Spelling.{Ident}
 
 -- what is allowed where a reader stops: a name, or no name
 pub data Want : Type 0 where
@@ -97,3 +101,91 @@ kind_tells is t = cond (is t.said) (Some tt) None
 
 abbrev pub token : (Said → Bool) → List Lexeme → Read (Unit {0})
 token is ts = single (kind_tells is) NoName ts
+
+-- there is a value
+abbrev pub is_there : {A : Type 0} → Option A → Bool
+is_there None = false
+is_there (Some a) = true
+
+-- the lexemes that tell a value
+abbrev pub telling : {A : Type 0} → (Said → Option A) → Said → Bool
+telling of k = is_there (of k)
+
+-- what a lexeme tells
+abbrev pub plainly : {A : Type 0} → (Said → Option A) → Lexeme → Option A
+plainly of l = of l.said
+
+abbrev pub placed_by : {A : Type 0} → ℕ → Option A → Option (ℕ × A)
+placed_by p None = None
+placed_by p (Some a) = Some (p, a)
+
+-- what a lexeme tells, and its place
+abbrev pub placed : {A : Type 0} → (Said → Option A) → Lexeme → Option (ℕ × A)
+placed of l = placed_by l.place (of l.said)
+
+-- the first lexemes of the two
+abbrev pub one_of : (Said → Bool) → (Said → Bool) → Said → Bool
+one_of a b k = a k || b k
+
+-- one of two, which the first lexeme tells
+abbrev pub first_tells : {A B : Type 0} → Want → (Said → Bool) → (Said → Bool) → (List Lexeme → Read A) → (List Lexeme → Read B) → List Lexeme → Read (A ⊎ B)
+first_tells want a b p q ts = either want (one_of a b) (heads a) p q ts
+
+-- the symbols that are this one
+abbrev pub is_sign : Sign → Said → Bool
+is_sign s (Symbol t) = same_sign s t
+is_sign s k = false
+
+-- the reserved words that are this one
+abbrev pub is_word : Word → Said → Bool
+is_word w (Reserved v) = same_word w v
+is_word w k = false
+
+-- this symbol
+abbrev pub sign_token : Sign → List Lexeme → Read (Unit {0})
+sign_token s ts = token (is_sign s) ts
+
+-- this reserved word
+abbrev pub word_token : Word → List Lexeme → Read (Unit {0})
+word_token w ts = token (is_word w) ts
+
+-- the place of a lexeme of these
+abbrev pub place_if : (Said → Bool) → Lexeme → Option ℕ
+place_if is l = cond (is l.said) (Some l.place) None
+
+-- the place of this symbol
+abbrev pub sign_place : Sign → List Lexeme → Read ℕ
+sign_place s ts = single (place_if (is_sign s)) NoName ts
+
+-- the place of this reserved word
+abbrev pub word_place : Word → List Lexeme → Read ℕ
+word_place w ts = single (place_if (is_word w)) NoName ts
+
+abbrev pub name_of : Said → Option (List ℕ)
+name_of (Name text) = Some text
+name_of k = None
+
+abbrev pub number_of : Said → Option ℕ
+number_of (Number n) = Some n
+number_of k = None
+
+abbrev pub is_name : Said → Bool
+is_name = telling name_of
+
+abbrev pub is_number : Said → Bool
+is_number = telling number_of
+
+abbrev pub ident_of : ℕ × List ℕ → Ident
+ident_of x = record { text = x.1; place = x.0 }
+
+-- a name
+abbrev pub ident_token : List Lexeme → Read Ident
+ident_token ts = mapped ident_of (single (placed name_of) AName) ts
+
+-- a number
+abbrev pub number_token : List Lexeme → Read ℕ
+number_token ts = single (plainly number_of) NoName ts
+
+-- a number with its place
+abbrev pub placed_number : List Lexeme → Read (ℕ × ℕ)
+placed_number ts = single (placed number_of) NoName ts
