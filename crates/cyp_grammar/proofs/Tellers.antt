@@ -5,12 +5,12 @@ use Rattle.cyp_lex.specs.declared.token.Word.{Word}
 use Rattle.cyp_grammar.specs.Lexemes.{Lexeme, Name, Number, Reserved, Said, Symbol}
 use Rattle.cyp_grammar.specs.Spelling.{Any, At, Ident, Mark, ident, sign, word}
 use Rattle.cyp_grammar.specs.SameSigns.{same_sign, same_word}
-use Rattle.cyp_grammar.specs.Readers.{AName, IsNamed, NoName, Read, Want, ident_of, ident_token, is_name, is_number, is_sign, is_there, is_word, mapped, name_of, number_of, number_token, place_if, placed, placed_by, placed_number, plainly, sign_place, sign_token, single, telling, token, word_place, word_token}
+use Rattle.cyp_grammar.specs.Readers.{AName, IsNamed, NoName, Read, Want, ident_of, ident_token, is_name, is_number, is_sign, is_there, is_word, listing, mapped, name_of, number_of, number_token, place_if, placed, placed_by, placed_number, plainly, sign_place, sign_token, single, telling, token, word_place, word_token}
 use Rattle.cyp_grammar.proofs.SameSigns.{sign_is, sign_self, word_is, word_self}
-use Rattle.cyp_grammar.proofs.Readings.{Reads}
+use Rattle.cyp_grammar.proofs.Readings.{Apart, Reads, Within}
 use Rattle.cyp_grammar.proofs.Singles.{IsSingle, Says, one, single_reads, some_is, some_of}
 use Rattle.cyp_grammar.proofs.Mapped.{mapped_reads}
-use Rattle.cyp_grammar.proofs.Lists.{kind_mark, made, token_reads}
+use Rattle.cyp_grammar.proofs.Lists.{kind_mark, listed_spelling, listing_reads, made, token_reads}
 
 -- what is told is what is said
 pub record Tells (A : Type 0) (of : Said → Option A) (said : A → Said) : Type 0 where
@@ -115,6 +115,12 @@ sign_reads s = token_reads {k = Symbol s} {is = is_sign s} (sign_self s) (sign_o
 
 pub word_reads : {ends : Said → Bool} {n : ℕ} (w : Word) → Reads n (Unit {0}) (one (word_mark w)) (is_word w) ends (word_token w)
 word_reads w = token_reads {k = Reserved w} {is = is_word w} (word_self w) (word_only w) (λ x. refl)
+
+-- one or more with this symbol between each two
+pub sign_listing_reads : {A : Type 0} {sp : A → List Mark} {sA fA f : Said → Bool} {p : List Lexeme → Read A} (s : Sign)
+    → Apart (is_sign s) fA → Within fA f → Within (is_sign s) f → Apart sA (is_sign s) → ((m : ℕ) → Reads m A sp sA fA p) → (n : ℕ)
+    → Reads n (A × List A) (listed_spelling (Symbol s) sp) sA f (listing (is_sign s) (sign_token s) p)
+sign_listing_reads s sep inA inS apart P n = listing_reads {k = Symbol s} {is = is_sign s} (sign_self s) (sign_only s) (λ x. refl) sep inA inS apart P n
 
 abbrev place_by : Bool → ℕ → Option ℕ
 place_by b p = cond b (Some p) None

@@ -1,1 +1,2 @@
 pub mod IntLaws
+pub mod SetLaws
