@@ -65,15 +65,15 @@ name_mapped {A} {B} {spA} {spB} to back there same N = record {
 
 -- ---- choices
 
-or_left : (a b : Bool) → a ≡ true → a || b ≡ true
+pub or_left : (a b : Bool) → a ≡ true → a || b ≡ true
 or_left true b e = refl
 or_left false b e = absurd cc
 
-or_right : (a b : Bool) → b ≡ true → a || b ≡ true
+pub or_right : (a b : Bool) → b ≡ true → a || b ≡ true
 or_right true b e = refl
 or_right false b e = e
 
-or_other : (a b : Bool) → a || b ≡ true → a ≡ false → b ≡ true
+pub or_other : (a b : Bool) → a || b ≡ true → a ≡ false → b ≡ true
 or_other true b e f = absurd cc
 or_other false b e f = e
 

@@ -9,4 +9,5 @@ pub mod Choices
 pub mod Lists
 pub mod Tellers
 pub mod Firsts
+pub mod Seconds
 pub mod Wholes

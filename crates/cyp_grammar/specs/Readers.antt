@@ -1,5 +1,5 @@
 -- Readers on lists of lexemes: the value and the lexemes after it, or the place where the reader stops.
-use Rattle.std.specs.Prelude.{◌||◌, Bool, Err, List, None, Ok, Option, Result, Some, [], cond, false, length, suc, true, zero, ◌∷◌, ◌≡◌, ◌⊎◌, ℕ}
+use Rattle.std.specs.Prelude.{not, ◌||◌, Bool, Err, List, None, Ok, Option, Result, Some, [], cond, false, length, suc, true, zero, ◌∷◌, ◌≡◌, ◌⊎◌, ℕ}
 use Rattle.std.proofs.Common.{inl, inr}
 use Rattle.cyp_lex.specs.declared.token.Sign.{Sign}
 use Rattle.cyp_lex.specs.declared.token.Word.{Word}
@@ -189,3 +189,15 @@ number_token ts = single (plainly number_of) NoName ts
 -- a number with its place
 abbrev pub placed_number : List Lexeme → Read (ℕ × ℕ)
 placed_number ts = single (placed number_of) NoName ts
+
+-- where a name stands the lexeme behind it tells, else the first lexeme
+abbrev pub goes_left : (Said → Bool) → (Said → Bool) → Said → List Lexeme → Bool
+goes_left a behind k ts = cond (is_name k) (not (heads behind ts)) (a k)
+
+abbrev pub left_by_second : (Said → Bool) → (Said → Bool) → List Lexeme → Bool
+left_by_second a behind [] = true
+left_by_second a behind (t ∷ ts) = goes_left a behind t.said ts
+
+-- one of two that may both begin with a name; the second has one of the given lexemes behind it
+abbrev pub second_tells : {A B : Type 0} → Want → (Said → Bool) → (Said → Bool) → (Said → Bool) → (List Lexeme → Read A) → (List Lexeme → Read B) → List Lexeme → Read (A ⊎ B)
+second_tells want a b behind p q ts = either want (one_of a b) (left_by_second a behind) p q ts

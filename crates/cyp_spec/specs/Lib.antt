@@ -1,3 +1,4 @@
 pub mod Trees
 pub mod Grammar
 pub mod TermReaders
+pub mod LitReaders
