@@ -1,2 +1,4 @@
 pub mod IntLaws
 pub mod SetLaws
+pub mod LitLaws
+pub mod NotLaws

@@ -1,12 +1,12 @@
 -- How literals are read.
-use Rattle.std.specs.Prelude.{Bool, List, None, Option, Some, [], false, length, not, suc, true, zero, ◌∷◌, ◌⊎◌, ℕ}
+use Rattle.std.specs.Prelude.{Bool, List, None, Option, Some, [], false, length, suc, true, zero, ◌∷◌, ◌⊎◌, ℕ}
 use Rattle.std.proofs.Common.{inl, inr}
 use Rattle.cyp_lex.specs.declared.token.Sign.TheVariants.{AtLeast, AtMost, Equal, Greater, LeftBrace, LeftParen, Less, Minus, RightParen, Same, Subset, TwoPluses, Unequal}
 use Rattle.cyp_lex.specs.declared.token.Word.TheVariants.{In, Not}
-use Rattle.cyp_grammar.specs.Lexemes.{Lexeme, Name, Number, Said, Symbol}
-use Rattle.cyp_grammar.specs.Readers.{AName, NoName, Read, both, either, first_tells, heads, is_word, mapped, one_of, plainly, sign_token, single, stop, telling, word_place, word_token}
+use Rattle.cyp_grammar.specs.Lexemes.{Lexeme, Said, Symbol}
+use Rattle.cyp_grammar.specs.Readers.{AName, NoName, Read, both, first_tells, is_word, mapped, one_of, plainly, second_tells, sign_token, single, stop, telling, word_place, word_token}
 use Rattle.cyp_spec.specs.Trees.{Comparing, Comparison, Inside, IntTree, IsAbove, IsAtLeast, IsAtMost, IsBelow, IsEqual, IsUnequal, LitTree, Negation, SameSets, SetTree, SubSets}
-use Rattle.cyp_spec.specs.TermReaders.{int_at, set_at}
+use Rattle.cyp_spec.specs.TermReaders.{begins_int, begins_set, int_at, set_at}
 
 abbrev pub comparison_of : Said → Option Comparison
 comparison_of (Symbol Equal) = Some IsEqual
@@ -61,11 +61,7 @@ abbrev pub set_lit : List Lexeme → Read SetLit
 set_lit ts = both set_at (both set_sign set_at) ts
 
 abbrev pub begins_base : Said → Bool
-begins_base (Number n) = true
-begins_base (Symbol Minus) = true
-begins_base (Name x) = true
-begins_base (Symbol LeftBrace) = true
-begins_base k = false
+begins_base = one_of begins_int begins_set
 
 -- behind a name: it was a union's
 abbrev pub is_set_tail : Said → Bool
@@ -74,19 +70,9 @@ is_set_tail (Symbol Same) = true
 is_set_tail (Symbol Subset) = true
 is_set_tail k = false
 
--- a name is a union's where the lexeme behind it says so
-abbrev pub is_int_lit_by : Said → List Lexeme → Bool
-is_int_lit_by (Symbol LeftBrace) us = false
-is_int_lit_by (Name x) us = not (heads is_set_tail us)
-is_int_lit_by k us = true
-
-abbrev pub is_int_lit : List Lexeme → Bool
-is_int_lit [] = true
-is_int_lit (t ∷ us) = is_int_lit_by t.said us
-
 -- a literal without `not`
 abbrev pub base_at : List Lexeme → Read Base
-base_at ts = either AName begins_base is_int_lit int_lit set_lit ts
+base_at ts = second_tells AName begins_int begins_set is_set_tail int_lit set_lit ts
 
 abbrev pub set_tree_of : SetTree → Bool → SetTree → LitTree
 set_tree_of a true b = SameSets a b
