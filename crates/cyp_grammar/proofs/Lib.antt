@@ -10,4 +10,5 @@ pub mod Lists
 pub mod Tellers
 pub mod Firsts
 pub mod Seconds
+pub mod Enclosures
 pub mod Wholes

@@ -2,6 +2,7 @@
 use Rattle.std.specs.Prelude.{not, ◌||◌, Bool, Err, List, None, Ok, Option, Result, Some, [], cond, false, length, suc, true, zero, ◌∷◌, ◌≡◌, ◌⊎◌, ℕ}
 use Rattle.std.proofs.Common.{inl, inr}
 use Rattle.cyp_lex.specs.declared.token.Sign.{Sign}
+use Rattle.cyp_lex.specs.declared.token.Sign.TheVariants.{Comma}
 use Rattle.cyp_lex.specs.declared.token.Word.{Word}
 use Rattle.cyp_grammar.specs.Lexemes.{Lexeme, Name, Number, Reserved, Said, Symbol}
 use Rattle.cyp_grammar.specs.SameSigns.{same_sign, same_word}
@@ -201,3 +202,15 @@ left_by_second a behind (t ∷ ts) = goes_left a behind t.said ts
 -- one of two that may both begin with a name; the second has one of the given lexemes behind it
 abbrev pub second_tells : {A B : Type 0} → Want → (Said → Bool) → (Said → Bool) → (Said → Bool) → (List Lexeme → Read A) → (List Lexeme → Read B) → List Lexeme → Read (A ⊎ B)
 second_tells want a b behind p q ts = either want (one_of a b) (left_by_second a behind) p q ts
+
+-- a list that may be empty, and what closes it
+abbrev pub Enclosed : Type 0 → Type 0
+Enclosed A = Unit {0} ⊎ ((A × List A) × Unit {0})
+
+abbrev pub enclosed_list : {A : Type 0} → Enclosed A → List A
+enclosed_list (inl u) = []
+enclosed_list (inr y) = y.0.0 ∷ y.0.1
+
+-- none or more between commas up to the symbol that closes them
+abbrev pub enclosed : {A : Type 0} → Want → Sign → (Said → Bool) → (List Lexeme → Read A) → List Lexeme → Read (List A)
+enclosed want close starts p ts = mapped enclosed_list (first_tells want (is_sign close) starts (sign_token close) (both (listing (is_sign Comma) (sign_token Comma) p) (sign_token close))) ts

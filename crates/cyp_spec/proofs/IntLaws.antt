@@ -36,8 +36,11 @@ sum_sign_back false = refl
 sum_sign_tells : Tells Bool sum_sign_of sum_sign_said
 sum_sign_tells = record { only = sum_sign_only; back = sum_sign_back; value = true }
 
-abbrev sum_sign_mark : Bool → Mark
+abbrev pub sum_sign_mark : Bool → Mark
 sum_sign_mark b = Any (sum_sign_said b)
+
+pub sum_sign_reads : {ends : Said → Bool} {n : ℕ} → Reads n Bool (one sum_sign_mark) is_sum ends sum_sign
+sum_sign_reads = plainly_reads {of = sum_sign_of} {said = sum_sign_said} {want = NoName} sum_sign_tells (λ x. refl)
 
 -- ---- the three kinds of terms
 
@@ -57,33 +60,33 @@ sum_ends (Symbol Plus) e = refl
 sum_ends (Symbol Minus) e = refl
 sum_ends k e = absurd cc
 
-abbrev number_spelling : NumberTerm → List Mark
+abbrev pub number_spelling : NumberTerm → List Mark
 number_spelling = spell_option (one placed_mark) (spell_both (one (sign_mark Plus)) (one ident))
 
-abbrev minus_spelling : MinusTerm → List Mark
+abbrev pub minus_spelling : MinusTerm → List Mark
 minus_spelling = spell_both (one (λ p. At (Symbol Minus) p)) (one number_mark)
 
 abbrev name_spelling : NameTerm → List Mark
 name_spelling = spell_option (one ident) (spell_both (one sum_sign_mark) (one number_mark))
 
-number_reads : (n : ℕ) → Reads n NumberTerm number_spelling is_number int_ends number_term
+pub number_reads : (n : ℕ) → Reads n NumberTerm number_spelling is_number int_ends number_term
 number_reads n = less_reads (option_reads {fA = none} {fB = none} placed_number_reads (both_reads {fA = none} {fB = none} (sign_reads Plus) ident_reads (apart_none _)) (apart_none _) (nowhere _) (nowhere _) plus_ends (λ x. refl))
 
-minus_reads : (n : ℕ) → Reads n MinusTerm minus_spelling (is_sign Minus) none minus_term
+pub minus_reads : (n : ℕ) → Reads n MinusTerm minus_spelling (is_sign Minus) none minus_term
 minus_reads n = both_reads {fA = none} (sign_place_reads Minus) number_token_reads (apart_none _)
 
 name_reads : (n : ℕ) → Reads n NameTerm name_spelling is_name int_ends name_term
 name_reads n = less_reads (option_reads {fA = none} {fB = none} ident_reads
-    (both_reads {fA = none} {fB = none} (plainly_reads {of = sum_sign_of} {said = sum_sign_said} {want = NoName} sum_sign_tells (λ x. refl)) number_token_reads (apart_none _))
+    (both_reads {fA = none} {fB = none} sum_sign_reads number_token_reads (apart_none _))
     (apart_none _) (nowhere _) (nowhere _) sum_ends (λ x. refl))
 
 -- ---- which term
 
-minus_name : Apart (is_sign Minus) is_name
+pub minus_name : Apart (is_sign Minus) is_name
 minus_name (Symbol Minus) e = refl
 minus_name k e = absurd cc
 
-number_other : Apart is_number begins_other
+pub number_other : Apart is_number begins_other
 number_other (Number n) e = refl
 number_other k e = absurd cc
 

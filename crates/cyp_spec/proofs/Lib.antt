@@ -2,3 +2,4 @@ pub mod IntLaws
 pub mod SetLaws
 pub mod LitLaws
 pub mod NotLaws
+pub mod ArgLaws

@@ -80,13 +80,13 @@ lit_ends (Symbol TwoPluses) = true
 lit_ends (Name x) = true
 lit_ends k = false
 
-int_ends_in : Within int_ends lit_ends
+pub int_ends_in : Within int_ends lit_ends
 int_ends_in (Symbol Plus) e = refl
 int_ends_in (Symbol Minus) e = refl
 int_ends_in (Name x) e = refl
 int_ends_in k e = absurd cc
 
-pluses_in : Within (is_sign TwoPluses) lit_ends
+pub pluses_in : Within (is_sign TwoPluses) lit_ends
 pluses_in (Symbol TwoPluses) e = refl
 pluses_in k e = absurd cc
 

@@ -77,7 +77,7 @@ name_inner = name_right (name_both (name_listed (Symbol Comma) name_int) (sign_r
 inner_reads : (n : ℕ) → Reads n Inner inner_spelling (one_of (is_sign RightBrace) begins_int) none inner
 inner_reads n = first_reads {fA = none} (sign_reads RightBrace) (filled_reads n) close_int name_inner.shows (within_self _) (within_self _)
 
-abbrev braced_spelling : ℕ × Inner → List Mark
+abbrev pub braced_spelling : ℕ × Inner → List Mark
 braced_spelling = spell_both (one (λ p. At (Symbol LeftBrace) p)) inner_spelling
 
 pub braces_reads : (n : ℕ) → Reads n (ℕ × Inner) braced_spelling (is_sign LeftBrace) none braces_at
@@ -87,7 +87,7 @@ open_name : Apart (is_sign LeftBrace) is_name
 open_name (Symbol LeftBrace) e = refl
 open_name k e = absurd cc
 
-abbrev inner_of : List IntTree → Inner
+abbrev pub inner_of : List IntTree → Inner
 inner_of [] = inl tt
 inner_of (t ∷ us) = inr ((t, us), tt)
 

@@ -2,3 +2,4 @@ pub mod Trees
 pub mod Grammar
 pub mod TermReaders
 pub mod LitReaders
+pub mod ChunkReaders
