@@ -3,3 +3,4 @@ pub mod SetLaws
 pub mod LitLaws
 pub mod NotLaws
 pub mod ArgLaws
+pub mod ChunkLaws
