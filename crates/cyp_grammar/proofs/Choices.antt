@@ -1,10 +1,10 @@
 -- Readers of one of two things.
-use Rattle.std.proofs.Common.{◌≡◌, ℕ, zero, suc, Bool, true, false, cond, ◌||◌, List, [], ◌∷◌, ◌++◌, Option, Some, None, Result, Ok, Err, ◌⊎◌, inl, inr, refl, sym, ap, subst, ◌∙◌, append_assoc, length, ◌<◌, ◌+◌, arith, length-append}
+use Rattle.std.proofs.Common.{◌≡◌, ℕ, Bool, true, false, List, [], ◌∷◌, ◌++◌, Ok, Err, ◌⊎◌, inl, inr, refl, sym, ap, subst, length, ◌<◌}
 use Rattle.cyp_grammar.specs.Lexemes.{Lexeme, Name, Said}
-use Rattle.cyp_grammar.specs.Spelling.{Any, At, Fits, IsEnd, Mark, Match, Then}
-use Rattle.cyp_grammar.specs.Readers.{AName, IsNamed, NoName, Read, Stop, Want, both, closed, closed_by, either, either_by, heads, mapped, option_after, option_by, pick_by, single, stop, token_or, ◌>>=◌}
-use Rattle.cyp_grammar.proofs.Spellings.{append_nil, head_is, match_join, nil_left, then_join, then_put, then_split}
-use Rattle.cyp_grammar.proofs.Readings.{Apart, Avoids, Bars, May, Next, Reads, SameHead, Sound, Stuck, Took, Within, avoids_less, bars_next, less_reads, next_append, no_start, shorter}
+use Rattle.cyp_grammar.specs.Spelling.{IsEnd, Mark, Match, Then}
+use Rattle.cyp_grammar.specs.Readers.{AName, IsNamed, NoName, Read, Want, either, either_by, heads, pick_by, ◌>>=◌}
+use Rattle.cyp_grammar.proofs.Spellings.{head_is, then_put}
+use Rattle.cyp_grammar.proofs.Readings.{Avoids, Bars, May, Next, Reads, Sound, Within, avoids_less, bars_next, next_append}
 
 abbrev pub spell_either : {A B : Type 0} → (A → List Mark) → (B → List Mark) → A ⊎ B → List Mark
 spell_either f g (inl x) = f x
@@ -15,7 +15,7 @@ abbrev pub SaysStart : {A : Type 0} → (A → List Mark) → (Said → Bool) �
 SaysStart {A} sp starts AName = (t : Lexeme) → IsNamed t → (y : A) × (w : List Lexeme) × Match (sp y) (t ∷ w)
 SaysStart {A} sp starts NoName = ((x : List ℕ) → starts (Name x) ≡ false)
 
--- the choice is right: where a token of the two stands, the one that is chosen begins with it, and the other doesn't begin so
+-- the choice is right: where a lexeme of the two stands, the one that is chosen begins with it, and the other doesn't begin so
 pub record IsChoice (A B : Type 0) (spA : A → List Mark) (sA : Said → Bool) (spB : B → List Mark) (sB : Said → Bool) (want : Want) (starts : Said → Bool) (pick : List Lexeme → Bool) : Type 1 where
   pub takes_left : (t : Lexeme) (us : List Lexeme) → starts t.said ≡ true → pick (t ∷ us) ≡ true → sA t.said ≡ true
   pub takes_right : (t : Lexeme) (us : List Lexeme) → starts t.said ≡ true → pick (t ∷ us) ≡ false → sB t.said ≡ true
@@ -25,7 +25,7 @@ pub record IsChoice (A B : Type 0) (spA : A → List Mark) (sA : Said → Bool) 
   pub not_left : (t : Lexeme) (us w : List Lexeme) → starts t.said ≡ true → pick (t ∷ us) ≡ false → Next us w → (y : A) (K : List Lexeme → Type 0) → Then (spA y) K (t ∷ w) → ⊥
   pub says : SaysStart (spell_either spA spB) starts want
 
--- a list of tokens that is taken from the front of this one has the same first token, and then agrees with it
+-- a list of lexemes that is taken from the front of this one has the same first lexeme, and then agrees with it
 pub record Agrees (t : Lexeme) (us v : List Lexeme) : Type 0 where
   pub tail : List Lexeme
   pub is : v ≡ t ∷ tail

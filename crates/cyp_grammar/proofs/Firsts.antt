@@ -1,10 +1,10 @@
 -- Choices by the first lexeme, and spellings that may begin with any name.
-use Rattle.std.proofs.Common.{◌≡◌, ℕ, Bool, true, false, ◌||◌, List, [], ◌∷◌, ◌++◌, Option, Some, None, ◌⊎◌, inl, inr, refl, sym, ap, subst, ◌∙◌}
-use Rattle.cyp_grammar.specs.Lexemes.{Lexeme, Name, Said}
-use Rattle.cyp_grammar.specs.Spelling.{Ident, IsEnd, Mark, Match, Then, ident}
-use Rattle.cyp_grammar.specs.Readers.{AName, IsNamed, NoName, Read, Want, first_tells, heads, ident_of, one_of}
-use Rattle.cyp_grammar.proofs.Spellings.{append_nil, match_join, then_join, then_put}
-use Rattle.cyp_grammar.proofs.Readings.{Apart, Next, Reads, Within}
+use Rattle.std.proofs.Common.{◌≡◌, ℕ, Bool, true, false, ◌||◌, List, [], ◌∷◌, ◌++◌, Option, None, ◌⊎◌, inl, inr, refl, sym, ap, subst, ◌∙◌}
+use Rattle.cyp_grammar.specs.Lexemes.{Lexeme, Said}
+use Rattle.cyp_grammar.specs.Spelling.{Ident, Mark, Match, ident}
+use Rattle.cyp_grammar.specs.Readers.{IsNamed, Read, Want, first_tells, heads, ident_of, one_of}
+use Rattle.cyp_grammar.proofs.Spellings.{append_nil, match_join}
+use Rattle.cyp_grammar.proofs.Readings.{Apart, Reads, Within}
 use Rattle.cyp_grammar.proofs.Sequences.{spell_both}
 use Rattle.cyp_grammar.proofs.Singles.{one}
 use Rattle.cyp_grammar.proofs.Options.{spell_option}
@@ -24,43 +24,43 @@ name_ident = record {
 pub name_both : {A B : Type 0} {spA : A → List Mark} {spB : B → List Mark} {sB fB : Said → Bool} {q : List Lexeme → Read B} {n : ℕ} → NameBegins A spA → Reads n B spB sB fB q → NameBegins (A × B) (spell_both spA spB)
 name_both {A} {B} {spA} {spB} N Q = record {
   shows = λ t n.
-        let a = N.shows t n in
-        ((a.0, Q.some), a.1 ++ Q.shown, match_join (spA a.0) (spB Q.some) (t ∷ a.1) Q.shown a.2 Q.is_some);
+      let a = N.shows t n in
+      ((a.0, Q.some), a.1 ++ Q.shown, match_join (spA a.0) (spB Q.some) (t ∷ a.1) Q.shown a.2 Q.is_some);
 }
 
 pub name_option : {A B : Type 0} {spA : A → List Mark} (spB : B → List Mark) → NameBegins A spA → NameBegins (A × Option B) (spell_option spA spB)
 name_option {A} {B} {spA} spB N = record {
   shows = λ t n.
-        let a = N.shows t n in
-        ((a.0, None), a.1, subst (λ (m : List Mark). Match m (t ∷ a.1)) (sym (append_nil (spA a.0))) a.2);
+      let a = N.shows t n in
+      ((a.0, None), a.1, subst (λ (m : List Mark). Match m (t ∷ a.1)) (sym (append_nil (spA a.0))) a.2);
 }
 
 pub name_listed : {A : Type 0} {sp : A → List Mark} (k : Said) → NameBegins A sp → NameBegins (A × List A) (listed_spelling k sp)
 name_listed {A} {sp} k N = record {
   shows = λ t n.
-        let a = N.shows t n in
-        ((a.0, []), a.1, subst (λ (m : List Mark). Match m (t ∷ a.1)) (sym (append_nil (sp a.0))) a.2);
+      let a = N.shows t n in
+      ((a.0, []), a.1, subst (λ (m : List Mark). Match m (t ∷ a.1)) (sym (append_nil (sp a.0))) a.2);
 }
 
 pub name_left : {A B : Type 0} {spA : A → List Mark} {spB : B → List Mark} → NameBegins A spA → NameBegins (A ⊎ B) (spell_either spA spB)
 name_left N = record {
   shows = λ t n.
-        let a = N.shows t n in
-        (inl a.0, a.1, a.2);
+      let a = N.shows t n in
+      (inl a.0, a.1, a.2);
 }
 
 pub name_right : {A B : Type 0} {spA : A → List Mark} {spB : B → List Mark} → NameBegins B spB → NameBegins (A ⊎ B) (spell_either spA spB)
 name_right N = record {
   shows = λ t n.
-        let b = N.shows t n in
-        (inr b.0, b.1, b.2);
+      let b = N.shows t n in
+      (inr b.0, b.1, b.2);
 }
 
 pub name_mapped : {A B : Type 0} {spA : A → List Mark} {spB : B → List Mark} (to : A → B) (back : B → A) → ((x : A) → back (to x) ≡ x) → ((y : B) → spB y ≡ spA (back y)) → NameBegins A spA → NameBegins B spB
 name_mapped {A} {B} {spA} {spB} to back there same N = record {
   shows = λ t n.
-        let a = N.shows t n in
-        (to a.0, a.1, subst (λ (m : List Mark). Match m (t ∷ a.1)) (sym (same (to a.0) ∙ ap spA (there a.0))) a.2);
+      let a = N.shows t n in
+      (to a.0, a.1, subst (λ (m : List Mark). Match m (t ∷ a.1)) (sym (same (to a.0) ∙ ap spA (there a.0))) a.2);
 }
 
 -- ---- choices

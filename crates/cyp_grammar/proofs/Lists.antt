@@ -1,12 +1,12 @@
 -- Readers of single lexemes of one kind, and of lists with a separator between each two.
-use Rattle.std.proofs.Common.{◌≡◌, ℕ, zero, suc, Bool, true, false, cond, ◌||◌, List, [], ◌∷◌, ◌++◌, Option, Some, None, Result, Ok, Err, ◌⊎◌, inl, inr, refl, sym, ap, subst, ◌∙◌, append_assoc, length, ◌<◌, ◌+◌, arith, length-append}
+use Rattle.std.proofs.Common.{◌≡◌, ℕ, zero, suc, Bool, true, false, cond, List, [], ◌∷◌, Option, Some, None, refl, sym, ap, subst, length, arith}
 use Rattle.cyp_grammar.specs.Lexemes.{Lexeme, Name, Said}
-use Rattle.cyp_grammar.specs.Spelling.{Any, At, Fits, IsEnd, Mark, Match, Then, list_spelling, more_spelling}
-use Rattle.cyp_grammar.specs.Readers.{AName, IsNamed, NoName, Read, Stop, Want, both, closed, closed_by, either, either_by, heads, mapped, option_after, option_by, pick_by, cons_of, kind_tells, listed, listing, token, single, stop, token_or, ◌>>=◌}
-use Rattle.cyp_grammar.proofs.Spellings.{append_nil, head_is, match_join, nil_left, then_join, then_put, then_split}
-use Rattle.cyp_grammar.proofs.Readings.{none, nowhere, Apart, Avoids, Bars, May, Next, Reads, SameHead, Sound, Stuck, Took, Within, avoids_less, bars_next, less_reads, next_append, no_start, shorter}
-use Rattle.cyp_grammar.proofs.Sequences.{both_reads, spell_both, then_reads}
-use Rattle.cyp_grammar.proofs.Singles.{IsSingle, Says, one, single_reads}
+use Rattle.cyp_grammar.specs.Spelling.{Any, Mark, Match, Then, list_spelling, more_spelling}
+use Rattle.cyp_grammar.specs.Readers.{NoName, Read, cons_of, kind_tells, listed, listing, token}
+use Rattle.cyp_grammar.proofs.Spellings.{append_nil, then_split}
+use Rattle.cyp_grammar.proofs.Readings.{none, Apart, Reads, Within}
+use Rattle.cyp_grammar.proofs.Sequences.{both_reads, spell_both}
+use Rattle.cyp_grammar.proofs.Singles.{IsSingle, one, single_reads}
 use Rattle.cyp_grammar.proofs.Mapped.{mapped_reads}
 use Rattle.cyp_grammar.proofs.Options.{option_reads, spell_option}
 

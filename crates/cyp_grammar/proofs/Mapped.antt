@@ -1,10 +1,10 @@
 -- Readers of the same under other trees, and readers after which no lexeme may stand that would go on.
-use Rattle.std.proofs.Common.{◌≡◌, ℕ, zero, suc, Bool, true, false, cond, ◌||◌, List, [], ◌∷◌, ◌++◌, Option, Some, None, Result, Ok, Err, ◌⊎◌, inl, inr, refl, sym, ap, subst, ◌∙◌, append_assoc, length, ◌<◌, ◌+◌, arith, length-append}
+use Rattle.std.proofs.Common.{◌≡◌, ℕ, Bool, true, false, List, [], ◌∷◌, ◌++◌, Ok, Err, inl, inr, refl, sym, ap, subst, ◌∙◌}
 use Rattle.cyp_grammar.specs.Lexemes.{Lexeme, Name, Said}
-use Rattle.cyp_grammar.specs.Spelling.{Any, At, Fits, IsEnd, Mark, Match, Then}
-use Rattle.cyp_grammar.specs.Readers.{AName, IsNamed, NoName, Read, Stop, Want, both, closed, closed_by, either, either_by, heads, mapped, option_after, option_by, pick_by, single, stop, token_or, ◌>>=◌}
-use Rattle.cyp_grammar.proofs.Spellings.{append_nil, head_is, match_join, nil_left, then_join, then_put, then_split}
-use Rattle.cyp_grammar.proofs.Readings.{Apart, Avoids, Bars, May, Next, Reads, SameHead, Sound, Stuck, Took, Within, avoids_less, bars_next, less_reads, next_append, no_start, shorter}
+use Rattle.cyp_grammar.specs.Spelling.{IsEnd, Mark, Match, Then}
+use Rattle.cyp_grammar.specs.Readers.{NoName, Read, closed, closed_by, heads, mapped, ◌>>=◌}
+use Rattle.cyp_grammar.proofs.Spellings.{then_put}
+use Rattle.cyp_grammar.proofs.Readings.{Avoids, May, Next, Reads, Sound, Took, Within}
 
 pub mapped_reads : {A B : Type 0} {spA : A → List Mark} {s f : Said → Bool} {p : List Lexeme → Read A} {spB : B → List Mark} {n : ℕ} (to : A → B) (back : B → A)
     → ((x : A) → back (to x) ≡ x) → ((y : B) → to (back y) ≡ y) → ((y : B) → spB y ≡ spA (back y)) → Reads n A spA s f p → Reads n B spB s f (mapped to p)
@@ -44,7 +44,7 @@ mapped_reads {A} {B} {spA} {s} {f} {p} {spB} {n} to back there again same P = re
       none = λ K av w b y hy. h.none K av w b (back y) (turn y K (h.before ++ w) hy);
     }
 
--- ---- no token that would go on
+-- ---- no lexeme that would go on
 
 closed_sound : {A : Type 0} (sp : A → List Mark) (s f test : Said → Bool) (p : List Lexeme → Read A) (n : ℕ) (P : Reads n A sp s f p)
     (sub : Within test f) (name : (x : List ℕ) → f (Name x) ≡ true) (ts : List Lexeme) (x : A) (rest : List Lexeme) (h : Took A sp f ts x rest) (b : Bool) → heads test rest ≡ b → Sound A sp s f ts (closed_by x rest b)

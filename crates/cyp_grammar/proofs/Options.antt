@@ -1,10 +1,10 @@
 -- Readers of a part that may be left out.
-use Rattle.std.proofs.Common.{◌≡◌, ℕ, zero, suc, Bool, true, false, cond, ◌||◌, List, [], ◌∷◌, ◌++◌, Option, Some, None, Result, Ok, Err, ◌⊎◌, inl, inr, refl, sym, ap, subst, ◌∙◌, append_assoc, length, ◌<◌, ◌+◌, arith, length-append}
+use Rattle.std.proofs.Common.{◌≡◌, ℕ, suc, Bool, true, false, List, [], ◌∷◌, ◌++◌, Option, Some, None, Ok, Err, refl, sym, ap, subst, ◌∙◌, append_assoc, length, ◌<◌, arith, length-append}
 use Rattle.cyp_grammar.specs.Lexemes.{Lexeme, Name, Said}
-use Rattle.cyp_grammar.specs.Spelling.{Any, At, Fits, IsEnd, Mark, Match, Then}
-use Rattle.cyp_grammar.specs.Readers.{AName, IsNamed, NoName, Read, Stop, Want, both, closed, closed_by, either, either_by, heads, mapped, option_after, option_by, pick_by, single, stop, token_or, ◌>>=◌}
+use Rattle.cyp_grammar.specs.Spelling.{IsEnd, Mark, Match, Then}
+use Rattle.cyp_grammar.specs.Readers.{Read, heads, option_after, option_by, ◌>>=◌}
 use Rattle.cyp_grammar.proofs.Spellings.{append_nil, head_is, match_join, nil_left, then_join, then_put, then_split}
-use Rattle.cyp_grammar.proofs.Readings.{Apart, Avoids, Bars, May, Next, Reads, SameHead, Sound, Stuck, Took, Within, avoids_less, bars_next, less_reads, next_append, no_start, shorter}
+use Rattle.cyp_grammar.proofs.Readings.{Apart, Avoids, Bars, Next, Reads, Sound, Took, Within, avoids_less, bars_next, next_append, no_start}
 
 abbrev pub spell_maybe : {B : Type 0} → (B → List Mark) → Option B → List Mark
 spell_maybe g None = []
@@ -57,7 +57,7 @@ option_ok {A} {B} spA sA fA p spB sB fB f q n P Q sep inA inB inS ts x t rest h 
     next : (w : List Lexeme) → Next y.1 w → Next (t ∷ rest) (g.front ++ w)
     next w nx = subst (λ (v : List Lexeme). Next v (g.front ++ w)) (sym g.parts) (next_append g.front y.1 w nx)
 
-    -- K begins with no token of the part
+    -- K begins with no lexeme of the part
     no_part : (K : List Lexeme → Type 0) → Avoids f K → (w : List Lexeme) → K (g.front ++ w) → ⊥
     no_part K av w k = begins g.front g.parts g.matched k
       where

@@ -1,9 +1,9 @@
 -- What it means that a reader gives the tree that is spelled, or stops at the first lexeme that nothing of the grammar allows.
-use Rattle.std.proofs.Common.{◌≡◌, ℕ, zero, suc, Bool, true, false, cond, ◌||◌, List, [], ◌∷◌, ◌++◌, Option, Some, None, Result, Ok, Err, ◌⊎◌, inl, inr, refl, sym, ap, subst, ◌∙◌, append_assoc, length, ◌<◌, ◌+◌, arith, length-append}
+use Rattle.std.proofs.Common.{◌≡◌, ℕ, suc, Bool, true, false, List, [], ◌∷◌, ◌++◌, Ok, Err, ◌⊎◌, inl, inr, refl, ap, length, ◌<◌, arith, length-append}
 use Rattle.cyp_grammar.specs.Lexemes.{Lexeme, Name, Said}
-use Rattle.cyp_grammar.specs.Spelling.{Any, At, Fits, IsEnd, Mark, Match, Then}
-use Rattle.cyp_grammar.specs.Readers.{AName, IsNamed, NoName, Read, Stop, Want, both, closed, closed_by, either, either_by, heads, mapped, option_after, option_by, pick_by, single, stop, token_or, ◌>>=◌}
-use Rattle.cyp_grammar.proofs.Spellings.{append_nil, head_is, match_join, nil_left, then_join, then_put, then_split}
+use Rattle.cyp_grammar.specs.Spelling.{Mark, Match, Then}
+use Rattle.cyp_grammar.specs.Readers.{AName, IsNamed, NoName, Read, Stop, Want, heads}
+use Rattle.cyp_grammar.proofs.Spellings.{head_is}
 
 abbrev pub SameHead : List Lexeme → List Lexeme → Type 0
 SameHead [] [] = Unit {0}
@@ -18,7 +18,7 @@ IsNameFirst (t ∷ ts) = IsNamed t
 abbrev pub Next : List Lexeme → List Lexeme → Type 0
 Next rest w = SameHead rest w ⊎ IsNameFirst w
 
--- what is not allowed where a reader stopped: its token, and a name where none is allowed
+-- what is not allowed where a reader stopped: its lexeme, and a name where none is allowed
 abbrev pub Bars : Want → List Lexeme → List Lexeme → Type 0
 Bars AName rest w = SameHead rest w
 Bars NoName rest w = Next rest w
@@ -40,14 +40,14 @@ next_append (t ∷ b) x y h = inl refl
 abbrev pub Avoids : (Said → Bool) → (List Lexeme → Type 0) → Type 0
 Avoids ends K = (t : Lexeme) (w : List Lexeme) → K (t ∷ w) → ends t.said ≡ false
 
--- the tokens at the front are spelled by x, and those of no other value unless the token after them, or a name, goes on
+-- the lexemes at the front are spelled by x, and those of no other value unless the lexeme after them, or a name, goes on
 pub record Took (A : Type 0) (spell : A → List Mark) (ends : Said → Bool) (ts : List Lexeme) (x : A) (rest : List Lexeme) : Type 1 where
   pub front : List Lexeme
   pub parts : ts ≡ front ++ rest
   pub matched : Match (spell x) front
   pub only : (K : List Lexeme → Type 0) → Avoids ends K → (w : List Lexeme) → Next rest w → (y : A) → Then (spell y) K (front ++ w) → (y ≡ x) × K w
 
--- the tokens before the stop begin a spelling, and with the next token none
+-- the lexemes before the stop begin a spelling, and with the next lexeme none
 pub record Stuck (A : Type 0) (spell : A → List Mark) (starts ends : Said → Bool) (ts : List Lexeme) (s : Stop) : Type 1 where
   pub before : List Lexeme
   pub rest : List Lexeme
@@ -61,7 +61,7 @@ abbrev pub Sound : (A : Type 0) (spell : A → List Mark) (starts ends : Said �
 Sound A spell starts ends ts (Ok x) = Took A spell ends ts x.0 x.1
 Sound A spell starts ends ts (Err s) = Stuck A spell starts ends ts s
 
--- p is right on lists of fewer than n tokens
+-- p is right on lists of fewer than n lexemes
 pub record Reads (n : ℕ) (A : Type 0) (spell : A → List Mark) (starts ends : Said → Bool) (p : List Lexeme → Read A) : Type 1 where
   pub sound : (ts : List Lexeme) → length ts < n → Sound A spell starts ends ts (p ts)
   pub first : (x : A) (K : List Lexeme → Type 0) (t : Lexeme) (w : List Lexeme) → Then (spell x) K (t ∷ w) → starts t.said ≡ true
@@ -86,7 +86,7 @@ avoids_less a b K sub av t w k = is_false (a t.said) (b t.said) (sub t.said) (av
     is_false true y h e = absurd (let is_so = h refl in cc)
     is_false false y h e = refl
 
--- a name is none of these tokens, and so is what stands at the head of rest
+-- a name is none of these lexemes, and so is what stands at the head of rest
 pub no_start : (test : Said → Bool) (rest w : List Lexeme) → ((x : List ℕ) → test (Name x) ≡ false) → heads test rest ≡ false → Next rest w → (t : Lexeme) (us : List Lexeme) → w ≡ t ∷ us → test t.said ≡ true → ⊥
 no_start test rest [] name head n t us e is_so = cc
 no_start test [] (u ∷ w) name head (inl n) t us e is_so = n

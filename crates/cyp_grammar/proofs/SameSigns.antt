@@ -1,5 +1,5 @@
 -- Symbols and reserved words that are found the same are equal.
-use Rattle.std.proofs.Common.{Bool, refl, true, ◌≡◌}
+use Rattle.std.proofs.Common.{refl, true, ◌≡◌}
 use Rattle.cyp_lex.specs.declared.token.Sign.{Sign}
 use Rattle.cyp_lex.specs.declared.token.Sign.TheVariants.{AndAnd, Assign, AtLeast, AtMost, Bar, Comma, Equal, Greater, Implies, LeftBrace, LeftBracket, LeftParen, Less, Minus, Plus, PointsTo, RightBrace, RightBracket, RightParen, Same, Semicolon, SlashAnd, Star, Subset, TwoPluses, TwoStars, Unequal}
 use Rattle.cyp_lex.specs.declared.token.Word.{Word}

@@ -1,10 +1,10 @@
 -- Readers of one thing after another.
-use Rattle.std.proofs.Common.{◌≡◌, ℕ, zero, suc, Bool, true, false, cond, ◌||◌, List, [], ◌∷◌, ◌++◌, Option, Some, None, Result, Ok, Err, ◌⊎◌, inl, inr, refl, sym, ap, subst, ◌∙◌, append_assoc, length, ◌<◌, ◌+◌, arith, length-append}
-use Rattle.cyp_grammar.specs.Lexemes.{Lexeme, Name, Said}
-use Rattle.cyp_grammar.specs.Spelling.{Any, At, Fits, IsEnd, Mark, Match, Then}
-use Rattle.cyp_grammar.specs.Readers.{AName, IsNamed, NoName, Read, Stop, Want, both, closed, closed_by, either, either_by, heads, mapped, option_after, option_by, pick_by, single, stop, token_or, ◌>>=◌}
-use Rattle.cyp_grammar.proofs.Spellings.{append_nil, head_is, match_join, nil_left, then_join, then_put, then_split}
-use Rattle.cyp_grammar.proofs.Readings.{Apart, Avoids, Bars, May, Next, Reads, SameHead, Sound, Stuck, Took, Within, avoids_less, bars_next, less_reads, next_append, no_start, shorter}
+use Rattle.std.proofs.Common.{◌≡◌, ℕ, suc, Bool, List, [], ◌∷◌, ◌++◌, Ok, Err, sym, ap, subst, ◌∙◌, append_assoc, length, ◌<◌, arith, length-append}
+use Rattle.cyp_grammar.specs.Lexemes.{Lexeme, Said}
+use Rattle.cyp_grammar.specs.Spelling.{IsEnd, Mark, Match, Then}
+use Rattle.cyp_grammar.specs.Readers.{Read, both, ◌>>=◌}
+use Rattle.cyp_grammar.proofs.Spellings.{match_join, nil_left, then_join, then_put, then_split}
+use Rattle.cyp_grammar.proofs.Readings.{Apart, Next, Reads, Sound, Took, bars_next, less_reads, next_append, shorter}
 
 abbrev pub spell_both : {A B : Type 0} → (A → List Mark) → (B → List Mark) → A × B → List Mark
 spell_both f g x = f x.0 ++ g x.1
@@ -59,7 +59,7 @@ both_sound spA sA fA p spB sB fB q n P Q sep ts short (Err s) h = record {
   none = λ K av w b z hz. h.none (Then (spB z.1) K) (λ t us l. sep t.said (Q.first z.1 K t us l)) w b z.0 (then_split (spA z.0) (spB z.1) K (h.before ++ w) hz);
 }
 
--- the first of two parts has a token
+-- the first of two parts has a lexeme
 first_of_both : (a b : List Mark) (K : List Lexeme → Type 0) (P : Type 0) (ts : List Lexeme) → (Then a (Then b K) ts → P) → Then (a ++ b) K ts → P
 first_of_both a b K P ts f h = f (then_split a b K ts h)
 
@@ -74,7 +74,7 @@ both_reads {A} {B} {spA} {sA} {fA} {p} {spB} {sB} {fB} {q} {n} P Q sep = record 
   is_some = match_join (spA P.some) (spB Q.some) P.shown Q.shown P.is_some Q.is_some;
 }
 
--- the second part is read where fewer tokens are left
+-- the second part is read where fewer lexemes are left
 pub then_reads : {A B : Type 0} {spA : A → List Mark} {sA fA : Said → Bool} {p : List Lexeme → Read A} {spB : B → List Mark} {sB fB : Said → Bool} {q : List Lexeme → Read B} {n : ℕ}
     → Reads (suc n) A spA sA fA p → Reads n B spB sB fB q → Apart sB fA → Reads (suc n) (A × B) (spell_both spA spB) sA fB (both p q)
 then_reads {A} {B} {spA} {sA} {fA} {p} {spB} {sB} {fB} {q} {n} P Q sep = record {

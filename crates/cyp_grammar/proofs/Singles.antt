@@ -1,12 +1,12 @@
 -- Readers of one lexeme.
-use Rattle.std.proofs.Common.{◌≡◌, ℕ, zero, suc, Bool, true, false, cond, ◌||◌, List, [], ◌∷◌, ◌++◌, Option, Some, None, Result, Ok, Err, ◌⊎◌, inl, inr, refl, sym, ap, subst, ◌∙◌, append_assoc, length, ◌<◌, ◌+◌, arith, length-append}
-use Rattle.cyp_grammar.specs.Lexemes.{Lexeme, Name, Said}
-use Rattle.cyp_grammar.specs.Spelling.{Any, At, Fits, IsEnd, Mark, Match, Then}
-use Rattle.cyp_grammar.specs.Readers.{AName, IsNamed, NoName, Read, Stop, Want, both, closed, closed_by, either, either_by, heads, mapped, option_after, option_by, pick_by, single, stop, token_or, ◌>>=◌}
-use Rattle.cyp_grammar.proofs.Spellings.{append_nil, head_is, match_join, nil_left, then_join, then_put, then_split}
-use Rattle.cyp_grammar.proofs.Readings.{Apart, Avoids, Bars, May, Next, Reads, SameHead, Sound, Stuck, Took, Within, avoids_less, bars_next, less_reads, next_append, no_start, shorter}
+use Rattle.std.proofs.Common.{◌≡◌, ℕ, Bool, true, List, [], ◌∷◌, ◌++◌, Option, Some, None, inl, inr, refl, sym, ap, subst, ◌∙◌}
+use Rattle.cyp_grammar.specs.Lexemes.{Lexeme, Said}
+use Rattle.cyp_grammar.specs.Spelling.{Fits, Mark, Then}
+use Rattle.cyp_grammar.specs.Readers.{AName, IsNamed, NoName, Want, single, token_or}
+use Rattle.cyp_grammar.proofs.Spellings.{head_is}
+use Rattle.cyp_grammar.proofs.Readings.{Bars, May, Reads, Sound}
 
--- what is said of names where a token is refused
+-- what is said of names where a lexeme is refused
 abbrev pub Says : {A : Type 0} → (Lexeme → Option A) → Want → Type 0
 Says {A} tells AName = (t : Lexeme) → IsNamed t → (a : A) × (tells t ≡ Some a)
 Says {A} tells NoName = (t : Lexeme) (a : A) → IsNamed t → tells t ≡ Some a → ⊥

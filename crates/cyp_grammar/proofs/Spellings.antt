@@ -1,8 +1,7 @@
 -- Marks one after another, and what may follow them.
-use Rattle.std.proofs.Common.{◌≡◌, ℕ, zero, suc, Bool, true, false, cond, ◌||◌, List, [], ◌∷◌, ◌++◌, Option, Some, None, Result, Ok, Err, ◌⊎◌, inl, inr, refl, sym, ap, subst, ◌∙◌, append_assoc, length, ◌<◌, ◌+◌, arith, length-append}
-use Rattle.cyp_grammar.specs.Lexemes.{Lexeme, Name, Said}
-use Rattle.cyp_grammar.specs.Spelling.{Any, At, Fits, IsEnd, Mark, Match, Then}
-use Rattle.cyp_grammar.specs.Readers.{AName, IsNamed, NoName, Read, Stop, Want, both, closed, closed_by, either, either_by, heads, mapped, option_after, option_by, pick_by, single, stop, token_or, ◌>>=◌}
+use Rattle.std.proofs.Common.{◌≡◌, List, [], ◌∷◌, ◌++◌, refl, sym, ap, subst}
+use Rattle.cyp_grammar.specs.Lexemes.{Lexeme}
+use Rattle.cyp_grammar.specs.Spelling.{IsEnd, Mark, Match, Then}
 
 pub then_split : (a b : List Mark) (K : List Lexeme → Type 0) (ts : List Lexeme) → Then (a ++ b) K ts → Then a (Then b K) ts
 then_split [] b K ts h = h

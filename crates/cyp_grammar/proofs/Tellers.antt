@@ -1,16 +1,15 @@
 -- Readers of one lexeme by what it says: a value, a value with its place, a symbol, a reserved word, a name, a number.
-use Rattle.std.proofs.Common.{◌≡◌, ℕ, zero, suc, Bool, true, false, cond, List, [], ◌∷◌, Option, Some, None, refl, sym, ap, subst, ◌∙◌}
+use Rattle.std.proofs.Common.{◌≡◌, ℕ, Bool, true, false, cond, List, [], Option, Some, None, refl, sym, ap, ◌∙◌}
 use Rattle.cyp_lex.specs.declared.token.Sign.{Sign}
 use Rattle.cyp_lex.specs.declared.token.Word.{Word}
 use Rattle.cyp_grammar.specs.Lexemes.{Lexeme, Name, Number, Reserved, Said, Symbol}
-use Rattle.cyp_grammar.specs.Spelling.{Any, At, Ident, Mark, ident, sign, word}
-use Rattle.cyp_grammar.specs.SameSigns.{same_sign, same_word}
-use Rattle.cyp_grammar.specs.Readers.{AName, IsNamed, NoName, Read, Want, ident_of, ident_token, is_name, is_number, is_sign, is_there, is_word, listing, mapped, name_of, number_of, number_token, place_if, placed, placed_by, placed_number, plainly, sign_place, sign_token, single, telling, token, word_place, word_token}
+use Rattle.cyp_grammar.specs.Spelling.{Any, At, Ident, Mark, ident}
+use Rattle.cyp_grammar.specs.Readers.{AName, NoName, Read, Want, ident_of, ident_token, is_name, is_number, is_sign, is_there, is_word, listing, name_of, number_of, number_token, place_if, placed, placed_by, placed_number, plainly, sign_place, sign_token, single, telling, word_place, word_token}
 use Rattle.cyp_grammar.proofs.SameSigns.{sign_is, sign_self, word_is, word_self}
 use Rattle.cyp_grammar.proofs.Readings.{Apart, Reads, Within}
 use Rattle.cyp_grammar.proofs.Singles.{IsSingle, Says, one, single_reads, some_is, some_of}
 use Rattle.cyp_grammar.proofs.Mapped.{mapped_reads}
-use Rattle.cyp_grammar.proofs.Lists.{kind_mark, listed_spelling, listing_reads, made, token_reads}
+use Rattle.cyp_grammar.proofs.Lists.{listed_spelling, listing_reads, made, token_reads}
 
 -- what is told is what is said
 pub record Tells (A : Type 0) (of : Said → Option A) (said : A → Said) : Type 0 where

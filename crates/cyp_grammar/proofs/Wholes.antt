@@ -1,14 +1,10 @@
 -- A reader of the front of the lexemes makes one of all of them.
-use Rattle.std.proofs.Common.{◌≡◌, ℕ, zero, suc, Bool, true, false, cond, ◌||◌, List, [], ◌∷◌, ◌++◌, Option, Some, None, Result, Ok, Err, ◌⊎◌, inl, inr, refl, sym, ap, subst, ◌∙◌, append_assoc, length, ◌<◌, ◌+◌, arith, length-append}
-use Rattle.cyp_grammar.specs.Lexemes.{Lexeme, Name, Said}
-use Rattle.cyp_grammar.specs.Spelling.{Any, At, Fits, IsEnd, Mark, Match, Then, list_spelling, more_spelling}
-use Rattle.cyp_grammar.specs.Readers.{AName, IsNamed, NoName, Read, Stop, Want, both, closed, closed_by, either, either_by, heads, mapped, option_after, option_by, pick_by, cons_of, kind_tells, listed, listing, token, single, stop, token_or, ◌>>=◌}
-use Rattle.cyp_grammar.proofs.Spellings.{append_nil, head_is, match_join, nil_left, then_join, then_put, then_split}
-use Rattle.cyp_grammar.proofs.Readings.{Apart, Avoids, Bars, May, Next, Reads, SameHead, Sound, Stuck, Took, Within, avoids_less, bars_next, less_reads, next_append, no_start, shorter}
-use Rattle.cyp_grammar.proofs.Sequences.{both_reads, spell_both, then_reads}
-use Rattle.cyp_grammar.proofs.Singles.{IsSingle, Says, one, single_reads}
-use Rattle.cyp_grammar.proofs.Mapped.{mapped_reads}
-use Rattle.cyp_grammar.proofs.Options.{option_reads, spell_option}
+use Rattle.std.proofs.Common.{◌≡◌, ℕ, suc, Bool, List, [], ◌∷◌, ◌++◌, Result, Ok, Err, inl, inr, refl, sym, ap, subst, ◌∙◌, append_assoc, length, arith}
+use Rattle.cyp_grammar.specs.Lexemes.{Lexeme, Said}
+use Rattle.cyp_grammar.specs.Spelling.{IsEnd, Mark, Match, Then}
+use Rattle.cyp_grammar.specs.Readers.{AName, NoName, Read, Stop, Want, ◌>>=◌}
+use Rattle.cyp_grammar.proofs.Spellings.{append_nil}
+use Rattle.cyp_grammar.proofs.Readings.{Avoids, Bars, May, Next, Reads, Sound, Stuck, Took}
 use Rattle.cyp_grammar.specs.Beginnings.{Begins, Refused}
 use Rattle.cyp_grammar.specs.Stops.{IsReading, IsStop, end_by, whole_of}
 
@@ -85,7 +81,7 @@ whole_reads {A} {sp} {s} {f} {p} P ts = any_end sp s f ts (p ts) ((P (suc (lengt
 abbrev ok_of : {A : Type 0} → A → Result A Stop
 ok_of x = Ok x
 
--- what is spelled is read: the tree is the one that the tokens spell
+-- what is spelled is read: the tree is the one that the lexemes spell
 pub spelled_is_read : {A : Type 0} (sp : A → List Mark) (ts : List Lexeme) (r : Result A Stop) → IsReading sp ts r → (y : A) → Match (sp y) ts → r ≡ ok_of y
 spelled_is_read {A} sp ts (Ok x) h y m = ap (λ (z : A). ok_of z) (sym (h.1 y m))
 spelled_is_read sp ts (Err s) h y m = absurd (refuses h.rest h.parts h.refused)

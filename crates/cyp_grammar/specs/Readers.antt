@@ -37,7 +37,7 @@ abbrev pub heads : (Said → Bool) → List Lexeme → Bool
 heads test [] = false
 heads test (t ∷ ts) = test t.said
 
--- one token, which tells a value
+-- one lexeme, which tells a value
 abbrev pub token_or : {A : Type 0} → Option A → Want → Lexeme → List Lexeme → Read A
 token_or None n t ts = stop n (t ∷ ts)
 token_or (Some a) n t ts = Ok (a, ts)
@@ -53,7 +53,7 @@ both p q ts = p ts >>= λ x. q x.1 >>= λ y. Ok ((x.0, y.0), y.1)
 abbrev pub mapped : {A B : Type 0} → (A → B) → (List Lexeme → Read A) → List Lexeme → Read B
 mapped g p ts = p ts >>= λ x. Ok (g x.0, x.1)
 
--- no token may follow that would go on
+-- no lexeme may follow that would go on
 abbrev pub closed_by : {A : Type 0} → A → List Lexeme → Bool → Read A
 closed_by x rest true = stop NoName rest
 closed_by x rest false = Ok (x, rest)
@@ -61,7 +61,7 @@ closed_by x rest false = Ok (x, rest)
 abbrev pub closed : {A : Type 0} → (Said → Bool) → (List Lexeme → Read A) → List Lexeme → Read A
 closed test p ts = p ts >>= λ x. closed_by x.0 x.1 (heads test x.1)
 
--- a part that may be left out, where the test knows its first token
+-- a part that may be left out, where the test knows its first lexeme
 abbrev pub option_by : {A B : Type 0} → A → List Lexeme → (List Lexeme → Read B) → Bool → Read (A × Option B)
 option_by x rest q false = Ok ((x, None), rest)
 option_by x rest q true = q rest >>= λ y. Ok ((x, Some y.0), y.1)
@@ -81,7 +81,7 @@ either_by n pick p q ts true = pick_by p q ts (pick ts)
 abbrev pub either : {A B : Type 0} → Want → (Said → Bool) → (List Lexeme → Bool) → (List Lexeme → Read A) → (List Lexeme → Read B) → List Lexeme → Read (A ⊎ B)
 either n starts pick p q ts = either_by n pick p q ts (heads starts ts)
 
--- one or more, with a token between each two; the number is above that of the lexemes
+-- one or more, with a lexeme between each two; the number is above that of the lexemes
 abbrev pub cons_of : {A : Type 0} → A × Option (Unit {0} × (A × List A)) → A × List A
 cons_of {A} x = from x.0 x.1
   where
@@ -96,7 +96,7 @@ listed (suc n) is sep p ts = mapped cons_of (option_after is p (both sep (listed
 abbrev pub listing : {A : Type 0} → (Said → Bool) → (List Lexeme → Read (Unit {0})) → (List Lexeme → Read A) → List Lexeme → Read (A × List A)
 listing is sep p ts = listed (suc (length ts)) is sep p ts
 
--- a token that tells only that it is there
+-- a lexeme that tells only that it is there
 abbrev pub kind_tells : (Said → Bool) → Lexeme → Option (Unit {0})
 kind_tells is t = cond (is t.said) (Some tt) None
 

@@ -1,5 +1,5 @@
 -- What a reader has to give: the tree that the lexemes spell, or the first lexeme that no text of the grammar allows.
-use Rattle.std.specs.Prelude.{Err, List, Ok, Result, [], length, ◌++◌, ◌∷◌, ◌≡◌, ℕ}
+use Rattle.std.specs.Prelude.{Err, List, Ok, Result, [], length, ◌++◌, ◌∷◌, ◌≡◌}
 use Rattle.cyp_grammar.specs.Lexemes.{Lexeme}
 use Rattle.cyp_grammar.specs.Spelling.{Mark, Match}
 use Rattle.cyp_grammar.specs.Beginnings.{Begins, Refused}

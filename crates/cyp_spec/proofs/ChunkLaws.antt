@@ -1,10 +1,10 @@
 -- Chunks and heaps are read as they are spelled.
-use Rattle.std.proofs.Common.{◌≡◌, ℕ, Bool, true, false, List, [], ◌∷◌, ◌++◌, ◌⊎◌, inl, inr, refl, ap, ◌∙◌}
-use Rattle.cyp_lex.specs.declared.token.Sign.TheVariants.{Comma, LeftBrace, LeftBracket, LeftParen, Minus, Plus, PointsTo, RightBracket, RightParen, TwoPluses, TwoStars}
+use Rattle.std.proofs.Common.{◌≡◌, ℕ, Bool, true, List, [], ◌∷◌, ◌⊎◌, inl, inr, refl}
+use Rattle.cyp_lex.specs.declared.token.Sign.TheVariants.{Comma, LeftBracket, LeftParen, PointsTo, RightBracket, RightParen, TwoStars}
 use Rattle.cyp_lex.specs.declared.token.Word.TheVariants.{Emp}
-use Rattle.cyp_grammar.specs.Lexemes.{Lexeme, Name, Number, Reserved, Said, Symbol}
-use Rattle.cyp_grammar.specs.Spelling.{Ident, Mark, Then, ident}
-use Rattle.cyp_grammar.specs.Readers.{AName, NoName, both, ident_token, is_name, is_sign, is_word, one_of}
+use Rattle.cyp_grammar.specs.Lexemes.{Name, Reserved, Said, Symbol}
+use Rattle.cyp_grammar.specs.Spelling.{Ident, Mark, ident}
+use Rattle.cyp_grammar.specs.Readers.{AName, NoName, is_name, is_sign, is_word, one_of}
 use Rattle.cyp_grammar.proofs.Readings.{Apart, Reads, Within, apart_none, none, nowhere, within_self}
 use Rattle.cyp_grammar.proofs.Singles.{one}
 use Rattle.cyp_grammar.proofs.Sequences.{both_reads, spell_both}
@@ -13,11 +13,9 @@ use Rattle.cyp_grammar.proofs.Choices.{spell_either}
 use Rattle.cyp_grammar.proofs.Lists.{listed_spelling}
 use Rattle.cyp_grammar.proofs.Tellers.{ident_reads, placed_mark, placed_number_reads, sign_listing_reads, sign_mark, sign_reads, word_mark, word_reads}
 use Rattle.cyp_grammar.proofs.Firsts.{NameBegins, first_reads, name_both, name_ident, name_left, name_listed, name_mapped, name_right}
-use Rattle.cyp_grammar.proofs.Seconds.{Behind, Leads}
 use Rattle.cyp_grammar.proofs.Enclosures.{enclosed_reads, enclosed_spelling, name_enclosed}
 use Rattle.cyp_spec.specs.Trees.{ArgTree, BlockOf, ChunkTree, InstanceOf, IntTree, NamedCell, TermCell}
 use Rattle.cyp_spec.specs.Grammar.{arg_spelling, chunk_spelling, heap_spelling, int_spelling}
-use Rattle.cyp_spec.specs.TermReaders.{int_at}
 use Rattle.cyp_spec.specs.ChunkReaders.{AnyChunk, BlockChunk, ChunkTail, TermChunk, args_at, begins_arg, begins_chunk, begins_heap, begins_shape, block_chunk, chunk_at, chunk_tail, chunk_tree, chunks_at, heap_at, heap_tree, is_chunk_tail, shape_chunk, term_chunk}
 use Rattle.cyp_spec.proofs.IntLaws.{int_ends, int_reads}
 use Rattle.cyp_spec.proofs.LitLaws.{lit_ends}

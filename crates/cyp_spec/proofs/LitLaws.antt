@@ -1,11 +1,11 @@
 -- Literals without `not` are read as they are spelled.
-use Rattle.std.proofs.Common.{◌≡◌, ℕ, zero, suc, Bool, true, false, cond, not, List, [], ◌∷◌, ◌++◌, Option, Some, None, ◌⊎◌, inl, inr, refl, sym, ap, subst, ◌∙◌}
+use Rattle.std.proofs.Common.{◌≡◌, ℕ, Bool, true, false, List, [], ◌∷◌, Some, inl, inr, refl, ap, ◌∙◌}
 use Rattle.cyp_lex.specs.declared.token.Sign.TheVariants.{AtLeast, AtMost, Equal, Greater, LeftBrace, Less, Minus, Plus, Same, Subset, TwoPluses, Unequal}
 use Rattle.cyp_lex.specs.declared.token.Word.TheVariants.{In}
-use Rattle.cyp_grammar.specs.Lexemes.{Lexeme, Name, Number, Reserved, Said, Symbol}
+use Rattle.cyp_grammar.specs.Lexemes.{Lexeme, Name, Reserved, Said, Symbol}
 use Rattle.cyp_grammar.specs.Spelling.{Any, Mark, Then}
-use Rattle.cyp_grammar.specs.Readers.{AName, IsNamed, NoName, Read, both, is_sign, is_word, one_of, word_token}
-use Rattle.cyp_grammar.proofs.Readings.{Apart, Reads, Within, apart_none, none, nowhere, within_self}
+use Rattle.cyp_grammar.specs.Readers.{NoName, both, is_sign, is_word, one_of, word_token}
+use Rattle.cyp_grammar.proofs.Readings.{Apart, Reads, Within, apart_none, none, within_self}
 use Rattle.cyp_grammar.proofs.Singles.{one}
 use Rattle.cyp_grammar.proofs.Sequences.{both_reads, spell_both}
 use Rattle.cyp_grammar.proofs.Choices.{spell_either}
@@ -14,7 +14,7 @@ use Rattle.cyp_grammar.proofs.Firsts.{NameBegins, first_reads, name_both, name_l
 use Rattle.cyp_grammar.proofs.Seconds.{ApartButNames, Behind, Leads, second_reads}
 use Rattle.cyp_spec.specs.Trees.{Braces, Comparison, IntTree, IsAbove, IsAtLeast, IsAtMost, IsBelow, IsEqual, IsUnequal, MinusNum, NameMinus, NamePlus, Named, Num, NumPlus, PartName, PartTree, SetTree}
 use Rattle.cyp_spec.specs.Grammar.{comparison_sign, int_spelling, set_spelling}
-use Rattle.cyp_spec.specs.TermReaders.{begins_int, begins_set, int_at, is_sum, set_at, set_tree}
+use Rattle.cyp_spec.specs.TermReaders.{begins_int, begins_set, int_at, set_at, set_tree}
 use Rattle.cyp_spec.specs.LitReaders.{Base, IntLit, Related, SetLit, base_at, begins_base, comparison, comparison_of, int_lit, is_comparison, is_relation, is_set_sign, is_set_tail, related, set_lit, set_sign, set_sign_of}
 use Rattle.cyp_spec.proofs.IntLaws.{int_ends, int_reads, name_int}
 use Rattle.cyp_spec.proofs.SetLaws.{set_reads}

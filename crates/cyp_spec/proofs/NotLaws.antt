@@ -1,9 +1,9 @@
 -- Literals are read as they are spelled.
-use Rattle.std.proofs.Common.{◌≡◌, ℕ, zero, suc, Bool, true, false, List, [], ◌∷◌, ◌++◌, ◌⊎◌, inl, inr, refl, sym, ap, subst, length, ◌<◌, arith}
-use Rattle.cyp_lex.specs.declared.token.Sign.TheVariants.{LeftBrace, LeftParen, Minus, Plus, RightParen, TwoPluses}
+use Rattle.std.proofs.Common.{◌≡◌, ℕ, zero, suc, Bool, true, false, List, [], ◌∷◌, ◌⊎◌, inl, inr, refl, ap, subst, length, arith}
+use Rattle.cyp_lex.specs.declared.token.Sign.TheVariants.{LeftParen, RightParen}
 use Rattle.cyp_lex.specs.declared.token.Word.TheVariants.{Not}
-use Rattle.cyp_grammar.specs.Lexemes.{Lexeme, Name, Number, Reserved, Said, Symbol}
-use Rattle.cyp_grammar.specs.Spelling.{Any, At, Mark, Then}
+use Rattle.cyp_grammar.specs.Lexemes.{Lexeme, Name, Reserved, Symbol}
+use Rattle.cyp_grammar.specs.Spelling.{At, Mark, Then}
 use Rattle.cyp_grammar.specs.Readers.{Read, both, is_sign, is_word, sign_token, word_place}
 use Rattle.cyp_grammar.proofs.Readings.{Apart, Reads, apart_none, none, nowhere, within_self}
 use Rattle.cyp_grammar.proofs.Singles.{one}
@@ -11,10 +11,10 @@ use Rattle.cyp_grammar.proofs.Sequences.{both_reads, spell_both, then_reads}
 use Rattle.cyp_grammar.proofs.Mapped.{mapped_reads}
 use Rattle.cyp_grammar.proofs.Choices.{spell_either}
 use Rattle.cyp_grammar.proofs.Tellers.{sign_mark, sign_reads, word_place_reads}
-use Rattle.cyp_grammar.proofs.Firsts.{NameBegins, first_reads, name_mapped, name_right, or_left, or_right}
-use Rattle.cyp_spec.specs.Trees.{Comparing, Comparison, Inside, IntTree, LitTree, Negation, SameSets, SetTree, SubSets}
+use Rattle.cyp_grammar.proofs.Firsts.{NameBegins, first_reads, name_mapped, name_right, or_right}
+use Rattle.cyp_spec.specs.Trees.{Comparing, Inside, IntTree, LitTree, Negation, SameSets, SetTree, SubSets}
 use Rattle.cyp_spec.specs.Grammar.{lit_spelling}
-use Rattle.cyp_spec.specs.LitReaders.{Base, Negated, Related, base_at, begins_base, begins_lit, lit_at, lit_in, lit_tree}
+use Rattle.cyp_spec.specs.LitReaders.{Base, Negated, Related, begins_base, begins_lit, lit_at, lit_in, lit_tree}
 use Rattle.cyp_spec.proofs.LitLaws.{base_reads, base_spelling, lit_ends, name_base}
 
 right_ends : Apart (is_sign RightParen) lit_ends

@@ -1,7 +1,7 @@
 -- How literals are read.
-use Rattle.std.specs.Prelude.{Bool, List, None, Option, Some, [], false, length, suc, true, zero, ◌∷◌, ◌⊎◌, ℕ}
+use Rattle.std.specs.Prelude.{Bool, List, None, Option, Some, false, length, suc, true, zero, ◌⊎◌, ℕ}
 use Rattle.std.proofs.Common.{inl, inr}
-use Rattle.cyp_lex.specs.declared.token.Sign.TheVariants.{AtLeast, AtMost, Equal, Greater, LeftBrace, LeftParen, Less, Minus, RightParen, Same, Subset, TwoPluses, Unequal}
+use Rattle.cyp_lex.specs.declared.token.Sign.TheVariants.{AtLeast, AtMost, Equal, Greater, LeftParen, Less, RightParen, Same, Subset, TwoPluses, Unequal}
 use Rattle.cyp_lex.specs.declared.token.Word.TheVariants.{In, Not}
 use Rattle.cyp_grammar.specs.Lexemes.{Lexeme, Said, Symbol}
 use Rattle.cyp_grammar.specs.Readers.{AName, NoName, Read, both, first_tells, is_word, mapped, one_of, plainly, second_tells, sign_token, single, stop, telling, word_place, word_token}
