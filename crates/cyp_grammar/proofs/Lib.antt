@@ -11,4 +11,5 @@ pub mod Tellers
 pub mod Firsts
 pub mod Seconds
 pub mod Enclosures
+pub mod Repeats
 pub mod Wholes
