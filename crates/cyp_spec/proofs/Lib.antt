@@ -4,3 +4,4 @@ pub mod LitLaws
 pub mod NotLaws
 pub mod ArgLaws
 pub mod ChunkLaws
+pub mod ItemLaws
