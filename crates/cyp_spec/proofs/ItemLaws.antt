@@ -1,8 +1,8 @@
 -- Items are read as they are spelled.
-use Rattle.std.proofs.Common.{◌≡◌, ℕ, Bool, true, false, List, [], ◌∷◌, ◌++◌, Option, Some, None, ◌⊎◌, inl, inr, refl, ap, ◌∙◌}
-use Rattle.cyp_lex.specs.declared.token.Sign.TheVariants.{AndAnd, LeftBrace, Minus, Plus, Semicolon, SlashAnd, TwoPluses}
-use Rattle.cyp_lex.specs.declared.token.Word.TheVariants.{Not, True}
-use Rattle.cyp_grammar.specs.Lexemes.{Name, Number, Reserved, Said, Symbol}
+use Rattle.std.proofs.Common.{◌≡◌, ℕ, Bool, List, Some, ◌⊎◌, inl, inr, refl, ap}
+use Rattle.cyp_lex.specs.declared.token.Sign.TheVariants.{AndAnd, Minus, Plus, Semicolon, SlashAnd, TwoPluses}
+use Rattle.cyp_lex.specs.declared.token.Word.TheVariants.{True}
+use Rattle.cyp_grammar.specs.Lexemes.{Name, Reserved, Said, Symbol}
 use Rattle.cyp_grammar.specs.Spelling.{Any, Mark}
 use Rattle.cyp_grammar.specs.Readers.{NoName, is_sign, is_word, one_of, plainly, single}
 use Rattle.cyp_grammar.proofs.Readings.{Apart, Reads, apart_none, none, nowhere, within_self}
