@@ -6,3 +6,4 @@ pub mod Mends
 pub mod Calling
 pub mod Step
 pub mod Rows
+pub mod Laws
