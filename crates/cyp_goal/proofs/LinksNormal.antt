@@ -1,5 +1,5 @@
 -- What the normal form keeps: of a node's companions, that they are well linked; of its instances, that they fit.
-use Rattle.std.proofs.Common.{◌≡◌, ◌||◌, ℕ, zero, suc, List, Option, Some, None, IfSome, cond, length, map, map-id, refl, subst, sym, IsTrue}
+use Rattle.std.proofs.Common.{◌≡◌, ◌||◌, [], ap, ℕ, zero, suc, List, Option, Some, None, IfSome, cond, length, map, map-id, refl, subst, sym, IsTrue}
 use Rattle.std.specs.List.{AllByRecursion}
 use Rattle.std.specs.Option.{option_and_then}
 use Rattle.std.proofs.lemmas.Bool.{cond_both}
@@ -37,7 +37,7 @@ pub record IsKeptWithin (P : Node → Type 0) (r : Renaming) : Type 0 where
   pub fact : P r.node
   pub within : IsTrue (is_within_limits r.node)
 
-IfSome-and_then : {A B : Type 0} (Q : A → Type 0) (R : B → Type 0) (f : A → Option B) → ((x : A) → Q x → IfSome (f x) R) → (o : Option A) → IfSome o Q → IfSome (option_and_then f o) R
+pub IfSome-and_then : {A B : Type 0} (Q : A → Type 0) (R : B → Type 0) (f : A → Option B) → ((x : A) → Q x → IfSome (f x) R) → (o : Option A) → IfSome o Q → IfSome (option_and_then f o) R
 IfSome-and_then Q R f h None k = tt
 IfSome-and_then Q R f h (Some x) k = h x k
 
@@ -133,3 +133,14 @@ fits_kept preds = record {
 -- a normal form has instances that fit where the node has
 pub normal_fits : (preds : Preds) (n : Node) → FitsOver preds n → IfSome (normal n) (IsKeptWithin (FitsOver preds))
 normal_fits preds = normal_kept (FitsOver preds) (fits_kept preds)
+
+bare_kept : IsKept (λ n. n.links ≡ [])
+bare_kept = record {
+  applied = λ by k n e. ap (map (apply_link by)) e;
+  beside = λ n g e d h. h;
+  maps = λ n to e. ap (map (λ (k : Link). record k { map = to k })) e;
+}
+
+-- a normal form of a node without companions has none
+pub normal_bare : (n : Node) → n.links ≡ [] → IfSome (normal n) (IsKeptWithin (λ m. m.links ≡ []))
+normal_bare = normal_kept (λ n. n.links ≡ []) bare_kept
