@@ -13,7 +13,7 @@ use Rattle.cyp_step.proofs.ChunkLists.{Every-put, Every-put_all, Every-slice_set
 use Rattle.cyp_step.proofs.RawNodes.{AreLeft, IsLeft, by_option, by_test, its_sides, left_one}
 use Rattle.cyp_step.specs.Changes.{add_pre, new_int, post_of, pre_of}
 use Rattle.cyp_step.specs.FlatRules.{block_cells, first_exist, first_place, has_exist, is_bare_open, is_cell_at, is_place, is_universal, is_written_at, new_cells, occurs_elsewhere, pair_at, raw_alloc, raw_frame, raw_free, raw_pick, raw_read, raw_write, without_cells}
-use Rattle.cyp_step.specs.Laws.{IsNode}
+use Rattle.cyp_step.specs.Nodes.{IsNode}
 use Rattle.cyp_step.specs.Shown.{is_open, is_program_expr, shown}
 use Rattle.cyp_term.specs.Terms.{var_term}
 use Rattle.cyp_term.specs.declared.lit.Lit.TheVariants.{Eq}

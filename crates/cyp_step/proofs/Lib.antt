@@ -1,7 +1,9 @@
 pub mod ChunkLists
+pub mod EachRule
 pub mod FlatRaws
 pub mod GoalWithin
 pub mod OpenedLink
 pub mod Premises
 pub mod RawNodes
+pub mod Root
 pub mod UnfoldedRaws

@@ -15,7 +15,7 @@ use Rattle.cyp_heap.specs.declared.goal.Link.{Link}
 use Rattle.cyp_heap.specs.declared.goal.Node.{Node}
 use Rattle.cyp_step.proofs.GoalWithin.{within_alone}
 use Rattle.cyp_step.specs.Changes.{pre_of}
-use Rattle.cyp_step.specs.Laws.{IsNode}
+use Rattle.cyp_step.specs.Nodes.{IsNode}
 use Rattle.cyp_step.specs.Unfolding.{card_terms, cards_of, last_tuple, open_link}
 use Rattle.cyp_term.specs.declared.term.Term.{Term}
 use Rattle.cyp_term.specs.declared.term.Var.{Var}
@@ -75,7 +75,7 @@ module _ (n : Node) (w : IsNode n) (i : ℕ) (j : InstOf) (at : slice_get (pre_o
       rw (length-append (last_tuple n.links ++ card_terms j.card) (cards_of (without (pre_of n) i)), length-append (last_tuple n.links) (card_terms j.card))
       (omega (
           arith,
-          last_short 16 n.links (omega arith) w.linked.short,
+          last_short 16 n.links (omega arith) w.raw.linked.short,
           card_short j.card,
           cards_short (without (pre_of n) i),
           length-without (pre_of n) i (Inst j) at,
@@ -92,9 +92,9 @@ module _ (n : Node) (w : IsNode n) (i : ℕ) (j : InstOf) (at : slice_get (pre_o
       let l : Link = open_link n i j in
       record {
         few = le-leb _ 4 (rw (length-append n.links (l ∷ [])) (omega (arith, room)));
-        goals_within = list_all_push (λ (k : Link). is_within_limits (record { preds = n.preds; goal = k.goal; links = [] })) n.links l w.linked.goals_within (within_alone n w.within);
-        goals_fit = list_all_push (λ (k : Link). insts_fit n.preds k.goal) n.links l w.linked.goals_fit w.fits;
-        grows = grows_push n.links l measure_goes_on w.linked.grows;
-        short = short_push 16 n.links l measure_short w.linked.short;
-        own_as_long = list_all_push (λ (k : Link). length k.own == length k.tuple) n.links l w.linked.own_as_long (eq-eqb (length l.own) (length l.tuple) refl);
+        goals_within = list_all_push (λ (k : Link). is_within_limits (record { preds = n.preds; goal = k.goal; links = [] })) n.links l w.raw.linked.goals_within (within_alone n w.within);
+        goals_fit = list_all_push (λ (k : Link). insts_fit n.preds k.goal) n.links l w.raw.linked.goals_fit w.raw.fits;
+        grows = grows_push n.links l measure_goes_on w.raw.linked.grows;
+        short = short_push 16 n.links l measure_short w.raw.linked.short;
+        own_as_long = list_all_push (λ (k : Link). length k.own == length k.tuple) n.links l w.raw.linked.own_as_long (eq-eqb (length l.own) (length l.tuple) refl);
       }

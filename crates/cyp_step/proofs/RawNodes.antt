@@ -7,7 +7,7 @@ use Rattle.cyp_heap.specs.Formed.{IsWellLinked}
 use Rattle.cyp_heap.specs.declared.goal.Goal.{Goal}
 use Rattle.cyp_heap.specs.declared.goal.Node.{Node}
 use Rattle.cyp_step.specs.Changes.{Raws}
-use Rattle.cyp_step.specs.Laws.{IsNode, clauses_fit}
+use Rattle.cyp_step.specs.Nodes.{IsNode, clauses_fit}
 
 -- a node that a rule leaves; its instances fit where those in clauses do
 pub record IsLeft (n m : Node) : Type 0 where
@@ -33,10 +33,10 @@ by_option (Some a) h k = k a refl
 
 module _ (n : Node) (w : IsNode n) where
   pub its_sides : SidesFit n.preds n.goal
-  its_sides = sides_fit n.preds n.goal w.fits
+  its_sides = sides_fit n.preds n.goal w.raw.fits
 
   pub left_goal : (g : Goal) → (IsTrue (clauses_fit n.preds) → SidesFit n.preds g) → IsLeft n (record n { goal = g })
-  left_goal g s = record { same = refl; linked = IsWellLinked-goal n g w.linked; fits = s }
+  left_goal g s = record { same = refl; linked = IsWellLinked-goal n g w.raw.linked; fits = s }
 
   -- one node with another goal
   pub left_one : (g : Goal) → AllByRecursion (FitsPre n.preds) g.pre.chunks → AllByRecursion (FitsPost n.preds) g.post.chunks → AreLeft n (Some (record n { goal = g } ∷ []))

@@ -22,7 +22,7 @@ use Rattle.cyp_step.proofs.OpenedLink.{opened_linked}
 use Rattle.cyp_step.proofs.RawNodes.{AreLeft, IsLeft, by_option, by_test, its_sides, left_goal, left_one}
 use Rattle.cyp_step.specs.Calling.{after_call, chunks_at, chunks_beside, is_callable, next_tag, raw_call, with_exist, with_new_cards}
 use Rattle.cyp_step.specs.Changes.{next_of, post_of, pre_of}
-use Rattle.cyp_step.specs.Laws.{IsNode, clause_fits, clauses_fit, pred_fits}
+use Rattle.cyp_step.specs.Nodes.{IsNode, clause_fits, clauses_fit, pred_fits}
 use Rattle.cyp_step.specs.Unfolding.{is_testable, open_link, open_premise, raw_close, raw_open}
 use Rattle.cyp_term.specs.declared.subst.Subst.{Subst}
 use Rattle.cyp_term.specs.declared.term.Var.{Var}
