@@ -1,16 +1,14 @@
 -- What the normal form puts in for variables keeps each cardinality a variable of sort Card.
-use Rattle.std.proofs.Common.{◌≡◌, ◌∙◌, ◌&&◌, Bool, List, [], ◌∷◌, Option, Some, None, IfSome, IsTrue, filter, map, not, option_map, refl, ap, sym, subst}
+use Rattle.std.proofs.Common.{◌≡◌, ◌∙◌, ◌&&◌, Bool, List, [], ◌∷◌, Option, Some, None, IfSome, IsTrue, filter, map, not, option_map, ap, sym, subst}
 use Rattle.std.proofs.lemmas.Bool.{and_parts, cond_both}
-use Rattle.std.proofs.lemmas.Option.{IfSome_then}
 use Rattle.cyp_goal.specs.Numbering.{new_name, numbering}
 use Rattle.cyp_goal.specs.Solving.{bind_int, bind_set, first_solved, first_some, solved_any, solved_base, solved_eq, solved_parts, solved_set, solved_side}
-use Rattle.cyp_term.specs.Terms.{apply_var, base_eq, int_image, is_set_var, plus, sort_eq, var_at, var_eq, var_in, var_term}
+use Rattle.cyp_term.specs.Terms.{apply_var, base_eq, int_image, is_set_var, sort_eq, var_at, var_eq, var_in, var_term}
 use Rattle.cyp_term.specs.declared.lit.Lit.{Lit}
 use Rattle.cyp_term.specs.declared.lit.Lit.TheVariants.{Eq, Same}
 use Rattle.cyp_term.specs.declared.lit.SetTerm.{SetTerm}
 use Rattle.cyp_term.specs.declared.subst.IntBind.{IntBind}
 use Rattle.cyp_term.specs.declared.subst.Subst.{Subst}
-use Rattle.cyp_term.specs.declared.term.Sort.{Sort}
 use Rattle.cyp_term.specs.declared.term.Sort.TheVariants.{Card, Int}
 use Rattle.cyp_term.specs.declared.term.Term.{Term}
 use Rattle.cyp_term.specs.declared.term.Var.{Var}
@@ -79,7 +77,7 @@ module _ (f : Lit → Option Subst) (h : (l : Lit) → MayKeep (f l)) where
   first_solved_keeps [] = tt
   first_solved_keeps (l ∷ ls) =
       elim (f l) as (λ (o : Option Subst).
-      MayKeep o → PairKeeps (elim o [ | Some by ↦ Some (by, ls) | None ↦ option_map (λ (p : Subst × List Lit). (p.0, l ∷ p.1)) (first_solved f ls) ])) [
+      MayKeep o → PairKeeps (elim o [ Some by ↦ Some (by, ls) | None ↦ option_map (λ (p : Subst × List Lit). (p.0, l ∷ p.1)) (first_solved f ls) ])) [
         | Some by ↦ (λ k. k)
         | None ↦ (λ k. behind (first_solved f ls) (first_solved_keeps ls))
       ]

@@ -84,9 +84,9 @@ module _ (preds : Preds) (g : Goal) where
       let bare : InstOf → Bool = λ i. is_none i.card in
       and_from _ _
       (and_from _ _
-        (subst IsTrue (sym (list_all-append (inst_fits preds) (insts g.pre.chunks) (insts g.post.chunks)))
-          (and_from _ _ (passes_first (inst_fits preds) card g.pre.chunks s.pre) (passes_first (inst_fits preds) bare g.post.chunks s.post)))
-        (passes_second (inst_fits preds) card g.pre.chunks s.pre))
+      (subst IsTrue (sym (list_all-append (inst_fits preds) (insts g.pre.chunks) (insts g.post.chunks)))
+      (and_from _ _ (passes_first (inst_fits preds) card g.pre.chunks s.pre) (passes_first (inst_fits preds) bare g.post.chunks s.post)))
+      (passes_second (inst_fits preds) card g.pre.chunks s.pre))
       (passes_second (inst_fits preds) bare g.post.chunks s.post)
 
 -- ---- substitution
@@ -99,12 +99,12 @@ module _ (by : Subst) where
   sorts-map (IntArg t ∷ xs) (s ∷ ss) h = and_from _ _ (and_parts _ (sorts_fit xs ss) h).0 (sorts-map xs ss (and_parts _ (sorts_fit xs ss) h).1)
   sorts-map (SetArg u ∷ xs) (s ∷ ss) h = and_from _ _ (and_parts _ (sorts_fit xs ss) h).0 (sorts-map xs ss (and_parts _ (sorts_fit xs ss) h).1)
 
-  -- its arguments keep their sorts, whatever card and tag it gets
-  pub fits-map : (i j : InstOf) (q : Option Pred) → j.args ≡ map (apply_arg by) i.args → IsTrue (fits_pred i q) → IsTrue (fits_pred j q)
+  -- the arguments keep their sorts
+  fits-map : (i j : InstOf) (q : Option Pred) → j.args ≡ map (apply_arg by) i.args → IsTrue (fits_pred i q) → IsTrue (fits_pred j q)
   fits-map i j None e h = h
   fits-map i j (Some q) e h = rw e (sorts-map i.args q.params h)
 
-  -- the instance in the clause's or node's new variables
+  -- the instance with every variable replaced by its image
   abbrev applied : InstOf → InstOf
   applied i = record { pred = i.pred; args = map (apply_arg by) i.args; card = apply_card by i.card; tag = i.tag }
 
@@ -135,7 +135,7 @@ module _ (by : Subst) where
     pub applied_sides : KeepsCards by → (g : Goal) → SidesFit preds g → SidesFit preds (apply_goal by g)
     applied_sides k g s = record { pre = applied_pre k g.pre.chunks s.pre; post = applied_post g.post.chunks s.post }
 
-    -- instances that fit, in other variables; whatever cardinality and tag they get afterwards
+    -- the same without a word on cardinalities
     pub applied_insts : (cs : List Chunk) → IsTrue (list_all (inst_fits preds) (insts cs)) → IsTrue (list_all (inst_fits preds) (insts (map (apply_chunk by) cs)))
     applied_insts [] h = refl
     applied_insts (Inst i ∷ cs) h =

@@ -1,12 +1,11 @@
 -- What the normal form keeps: of a node's companions, that they are well linked; of its instances, that they fit.
-use Rattle.std.proofs.Common.{◌≡◌, ◌||◌, [], ap, ℕ, zero, suc, List, Option, Some, None, IfSome, cond, length, map, map-id, refl, subst, sym, IsTrue}
+use Rattle.std.proofs.Common.{◌≡◌, ◌||◌, [], ap, ℕ, zero, suc, List, Option, Some, None, IfSome, length, map, map-id, refl, subst, sym, IsTrue}
 use Rattle.std.specs.List.{AllByRecursion}
 use Rattle.std.specs.Option.{option_and_then}
 use Rattle.std.proofs.lemmas.Bool.{cond_both}
-use Rattle.std.proofs.lemmas.Option.{IfSome_then}
 use Rattle.cyp_goal.specs.Normal.{Renaming, keep_limits, normal, solve, tidy_node}
 use Rattle.cyp_goal.specs.Numbering.{numbering, renumber}
-use Rattle.cyp_goal.specs.Pruning.{live_vars, prune}
+use Rattle.cyp_goal.specs.Pruning.{prune}
 use Rattle.cyp_goal.specs.Solving.{first_solved, is_logical, solve_post, solve_pre, solved_any, solved_eq, substitute, wide_subst, with_post, with_pre}
 use Rattle.cyp_heap.specs.Formed.{IsWellLinked}
 use Rattle.cyp_heap.specs.Goals.{apply_link, apply_node, node_vars, wide_node}
@@ -23,7 +22,6 @@ use Rattle.cyp_term.specs.Terms.{var_in}
 use Rattle.cyp_term.specs.declared.lit.Lit.{Lit}
 use Rattle.cyp_term.specs.declared.subst.Subst.{Subst}
 use Rattle.cyp_term.specs.declared.term.Term.{Term}
-use Rattle.cyp_term.specs.declared.term.Var.{Var}
 
 -- the fact of nodes is kept by substitutions that keep cardinalities, by changes of a goal beside its chunks,
 -- and by changes of the companions' maps

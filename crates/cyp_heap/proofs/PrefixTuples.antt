@@ -1,5 +1,5 @@
 -- A change of companions that keeps goals and own measures, and changes tuples term by term, keeps a node well linked.
-use Rattle.std.proofs.Common.{◌≡◌, ◌&&◌, ◌+◌, ◌++◌, ◌==◌, ℕ, suc, Bool, List, [], ◌∷◌, IsTrue, map, length, nat_le, refl, ap, sym, subst}
+use Rattle.std.proofs.Common.{◌≡◌, ◌+◌, ◌++◌, ◌==◌, ℕ, Bool, List, [], ◌∷◌, IsTrue, map, length, nat_le, refl, ap}
 use Rattle.std.specs.List.{list_all}
 use Rattle.std.proofs.lemmas.Bool.{and_from, and_parts, false≢true}
 use Rattle.std.proofs.lemmas.List.{length-map}

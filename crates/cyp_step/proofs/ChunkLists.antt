@@ -1,6 +1,6 @@
 -- A fact of each element of a list, under the changes that rules make.
-use Rattle.std.proofs.Common.{◌≡◌, ◌++◌, ℕ, zero, suc, List, [], ◌∷◌, Option, Some, None, IfSome, IsTrue, Bool, cond, map, nat_lt, slice_get, slice_set, option_map, refl}
-use Rattle.std.specs.List.{AllByRecursion, list_all, list_any}
+use Rattle.std.proofs.Common.{ℕ, zero, suc, List, [], ◌∷◌, Option, Some, None, IfSome, IsTrue, Bool, map, nat_lt, slice_get, slice_set, option_map}
+use Rattle.std.specs.List.{AllByRecursion, list_all}
 use Rattle.std.proofs.lemmas.Bool.{and_parts, cond_both}
 use Rattle.std.proofs.lemmas.List.Elements.{All-from_recursion, All-set, recursion_from_All}
 use Rattle.cyp_heap.specs.Chunks.{kind_rank, put, put_all, without}

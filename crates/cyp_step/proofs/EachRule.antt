@@ -1,29 +1,18 @@
 -- What each rule leaves to do.
-use Rattle.std.proofs.Common.{◌&&◌, ◌==◌, ◌≡◌, ◌∷◌, List, [], None, Option, Some, IfSome, IsTrue, length, map, option_map, refl, slice_get, subst, sym}
-use Rattle.std.specs.List.{All, AllByRecursion}
-use Rattle.std.specs.Option.{option_and_then}
-use Rattle.std.proofs.lemmas.Option.{IfSome_then}
-use Rattle.std.proofs.lemmas.List.Elements.{All-from_recursion}
-use Rattle.cyp_goal.proofs.LinksFit.{FitsPost, FitsPre, insts_fit_from, sides_fit}
-use Rattle.cyp_goal.proofs.LinksNormal.{FitsOver, IfSome-and_then, IsKeptWithin, normal_bare, normal_fits, normal_linked}
+use Rattle.std.proofs.Common.{◌&&◌, ◌==◌, length, refl, slice_get}
+use Rattle.cyp_goal.proofs.LinksFit.{FitsPost, FitsPre}
 use Rattle.cyp_goal.specs.Facts.{facts}
-use Rattle.cyp_goal.specs.Normal.{Renaming, normal}
-use Rattle.cyp_heap.proofs.PrefixTuples.{IsWellLinked-none}
-use Rattle.cyp_heap.specs.Formed.{IsWellLinked, insts_fit}
-use Rattle.cyp_heap.specs.Goals.{wide_node}
-use Rattle.cyp_heap.specs.declared.goal.Goal.{Goal}
+use Rattle.cyp_heap.specs.Formed.{insts_fit}
 use Rattle.cyp_heap.specs.declared.goal.Link.{Link}
 use Rattle.cyp_heap.specs.declared.goal.Node.{Node}
-use Rattle.cyp_heap.specs.declared.pred.Preds.{Preds}
-use Rattle.cyp_step.proofs.ChunkLists.{Every-map, Every-slice_get, IfSome-map, list_all-slice_get}
+use Rattle.cyp_step.proofs.ChunkLists.{Every-slice_get, list_all-slice_get}
 use Rattle.cyp_step.proofs.FlatRaws.{alloc_left, frame_left, free_left, pick_left, read_left, write_left}
-use Rattle.cyp_step.proofs.RawNodes.{AreLeft, IsLeft, by_option, by_test, its_sides}
+use Rattle.cyp_step.proofs.RawNodes.{AreLeft, by_test, its_sides}
 use Rattle.cyp_step.proofs.UnfoldedRaws.{call_left, close_left, open_left}
-use Rattle.cyp_step.specs.Changes.{Raws, post_of, pre_of}
-use Rattle.cyp_step.specs.Laws.{LeftNodesAreRaw, PremisesAreNodes, PremisesAreWellLinked, RootIsNode, RootIsWellLinked}
-use Rattle.cyp_step.specs.Nodes.{IsNode, IsOver, IsRaw, clauses_fit}
+use Rattle.cyp_step.specs.Changes.{post_of, pre_of}
+use Rattle.cyp_step.specs.Nodes.{IsNode}
 use Rattle.cyp_step.specs.Shown.{shown}
-use Rattle.cyp_step.specs.Step.{all_normal, nodes_of, premises, raws, renamed_premises}
+use Rattle.cyp_step.specs.Step.{raws}
 use Rattle.cyp_step.specs.declared.rule.Rule.{Rule}
 use Rattle.cyp_step.specs.declared.rule.Rule.TheVariants.{ByAlloc, ByCall, ByClose, ByEmp, ByFrame, ByFree, ByInconsistent, ByOpen, ByPick, ByRead, ByWrite}
 use Rattle.cyp_term.specs.Entailment.{satisfiable}

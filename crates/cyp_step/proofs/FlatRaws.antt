@@ -1,10 +1,10 @@
 -- What the rules that unfold nothing leave to do.
-use Rattle.std.proofs.Common.{◌&&◌, ◌||◌, ◌==◌, ◌≡◌, ◌∷◌, ℕ, zero, suc, Bool, List, [], None, Option, Some, IfSome, length, map, not, refl, slice_get}
+use Rattle.std.proofs.Common.{◌&&◌, ◌||◌, ◌==◌, ◌∷◌, ℕ, suc, Bool, List, [], Option, Some, IfSome, length, map, not}
 use Rattle.std.specs.List.{AllByRecursion, list_all}
 use Rattle.cyp_goal.proofs.LinksFit.{FitsPost, FitsPre, InstPasses}
 use Rattle.cyp_heap.specs.Chunks.{insts, put, without}
 use Rattle.cyp_heap.specs.declared.chunk.Chunk.{Chunk}
-use Rattle.cyp_heap.specs.declared.chunk.Chunk.TheVariants.{Block, Cell, Inst}
+use Rattle.cyp_heap.specs.declared.chunk.Chunk.TheVariants.{Block, Cell}
 use Rattle.cyp_heap.specs.declared.chunk.InstOf.{InstOf}
 use Rattle.cyp_heap.specs.Formed.{inst_fits, is_card_var}
 use Rattle.cyp_heap.specs.declared.goal.Node.{Node}
@@ -50,20 +50,20 @@ module _ (n : Node) (w : IsNode n) where
   frame_left i =
       by_option (pair_at i (frame_pairs n.goal)) (λ e. rw (e, raw_frame) tt)
       (λ p e. rw (e, raw_frame)
-        (by_test (list_all (λ l. is_open n.goal l || shown n.goal (l ∷ [])) p.lits)
-          (λ d. rw d (left_one n w _ (Every-without (FitsPre n.preds) (pre_of n) i pre) (Every-without (FitsPost n.preds) (post_of n) 0 post)))
-          (λ d. rw d tt)))
+      (by_test (list_all (λ l. is_open n.goal l || shown n.goal (l ∷ [])) p.lits)
+      (λ d. rw d (left_one n w _ (Every-without (FitsPre n.preds) (pre_of n) i pre) (Every-without (FitsPost n.preds) (post_of n) 0 post)))
+      (λ d. rw d tt)))
 
   pub write_left : (i : ℕ) (o p : Option Chunk) → AreLeft n (raw_write n i o p)
   write_left i (Some (Cell f)) (Some (Cell c)) =
       by_test (not (has_exist n.goal f.at) && is_program_expr n.goal c.at && is_program_expr n.goal f.content)
       (λ e. rw (e, raw_write)
-        (by_test (is_place i (first_place (is_cell_at n.goal f.at) 0 (pre_of n)))
-          (λ d. rw d
-            (by_test (shown n.goal (Eq f.content c.content ∷ []))
-              (λ b. rw b tt)
-              (λ b. rw b (left_one n w _ (Every-slice_set (FitsPre n.preds) (pre_of n) i (Cell (record { at = c.at; content = f.content })) tt pre) post))))
-          (λ d. rw d tt)))
+      (by_test (is_place i (first_place (is_cell_at n.goal f.at) 0 (pre_of n)))
+      (λ d. rw d
+      (by_test (shown n.goal (Eq f.content c.content ∷ []))
+      (λ b. rw b tt)
+      (λ b. rw b (left_one n w _ (Every-slice_set (FitsPre n.preds) (pre_of n) i (Cell (record { at = c.at; content = f.content })) tt pre) post))))
+      (λ d. rw d tt)))
       (λ e. rw (e, raw_write) tt)
   write_left i _ _ = tt
 
@@ -71,9 +71,9 @@ module _ (n : Node) (w : IsNode n) where
   free_left i (Some (Block b)) =
       by_test (length (post_of n) == 0 && is_program_expr n.goal b.at)
       (λ e. rw (e, raw_free)
-        (IfSome-map (AllByRecursion (FitsPre n.preds)) (AllByRecursion (IsLeft n)) (λ (cs : List Chunk). add_pre n [] cs ∷ []) (λ cs h. left_one n w _ h post)
-          (without_cells (block_cells b.at b.size) (without (pre_of n) i))
-          (without_cells_kept (FitsPre n.preds) (block_cells b.at b.size) (without (pre_of n) i) (Every-without (FitsPre n.preds) (pre_of n) i pre))))
+      (IfSome-map (AllByRecursion (FitsPre n.preds)) (AllByRecursion (IsLeft n)) (λ (cs : List Chunk). add_pre n [] cs ∷ []) (λ cs h. left_one n w _ h post)
+      (without_cells (block_cells b.at b.size) (without (pre_of n) i))
+      (without_cells_kept (FitsPre n.preds) (block_cells b.at b.size) (without (pre_of n) i) (Every-without (FitsPre n.preds) (pre_of n) i pre))))
       (λ e. rw (e, raw_free) tt)
   free_left i _ = tt
 
@@ -84,11 +84,11 @@ module _ (n : Node) (w : IsNode n) where
       let block : Chunk = Block (record { at = var_term z; size = f.size }) in
       by_test (is_bare_open n.goal f.at)
       (λ e. rw e
-        (left_one n w _
-          (Every-put_all (FitsPre n.preds) (put (pre_of n) block) (new_cells (var_term z) 0 contents)
-            (new_cells_pass (inst_fits n.preds) (λ (i : InstOf). is_card_var i.card) (var_term z) 0 contents)
-            (Every-put (FitsPre n.preds) (pre_of n) block tt pre))
-          post))
+      (left_one n w _
+      (Every-put_all (FitsPre n.preds) (put (pre_of n) block) (new_cells (var_term z) 0 contents)
+      (new_cells_pass (inst_fits n.preds) (λ (i : InstOf). is_card_var i.card) (var_term z) 0 contents)
+      (Every-put (FitsPre n.preds) (pre_of n) block tt pre))
+      post))
       (λ e. rw e tt)
   alloc_left _ = tt
 

@@ -1,11 +1,11 @@
 -- The goal of a node within limits is within them without companions.
-use Rattle.std.proofs.Common.{◌≡◌, ◌&&◌, ◌+◌, ◌++◌, ◌≤◌, ℕ, Bool, List, [], ◌∷◌, IsTrue, arith, append-nil, cond, filter, flat_map, length, le_refl, le_trans, le-leb, leb-true, nat_le, not, refl, subst, sum_by, sym}
+use Rattle.std.proofs.Common.{◌≡◌, ◌++◌, ◌≤◌, ℕ, Bool, List, [], ◌∷◌, IsTrue, arith, append-nil, filter, flat_map, length, le_refl, le_trans, le-leb, leb-true, nat_le, not, refl}
 use Rattle.std.specs.List.{list_any}
 use Rattle.std.proofs.lemmas.Bool.{and_from, and_parts, cond_both}
 use Rattle.std.proofs.lemmas.List.{length-append}
 use Rattle.std.proofs.lemmas.List.Elements.{filter-append}
 use Rattle.cyp_heap.specs.Goals.{goal_vars, image_vars, node_vars}
-use Rattle.cyp_heap.specs.Limits.{goal_elements, goal_units, is_within_limits, link_units, node_units}
+use Rattle.cyp_heap.specs.Limits.{goal_elements, is_within_limits, node_units}
 use Rattle.cyp_heap.specs.declared.goal.Link.{Link}
 use Rattle.cyp_heap.specs.declared.goal.Node.{Node}
 use Rattle.cyp_term.specs.Terms.{is_set_var, term_eq, term_vars, var_eq, with_all_new, with_new, without_repeats}
@@ -54,10 +54,10 @@ module _ (n : Node) where
       let t5 = and_parts _ (nat_le (length (filter (λ v. not (is_set_var v)) (node_vars n))) 32) t6.0 in
       and_from _ _
       (and_from _ _
-        (and_from _ _
-          (and_from _ _
-            (and_from _ _ t5.0 (fewer _ _ 32 (vars_more (λ v. not (is_set_var v))) t5.1))
-            (fewer _ _ 12 (vars_more is_set_var) t6.1))
-          t7.1)
-        refl)
+      (and_from _ _
+      (and_from _ _
+      (and_from _ _ t5.0 (fewer _ _ 32 (vars_more (λ v. not (is_set_var v))) t5.1))
+      (fewer _ _ 12 (vars_more is_set_var) t6.1))
+      t7.1)
+      refl)
       (fewer (node_units (alone n)) (node_units n) 240 (omega arith) t9.1)

@@ -1,10 +1,10 @@
 -- The companion that Open adds: its measure goes on from the last tuple, and has at most 16 more terms.
-use Rattle.std.proofs.Common.{◌≡◌, ◌&&◌, ◌*◌, ◌+◌, ◌++◌, ◌<◌, ◌==◌, ◌≤◌, ℕ, zero, suc, Bool, List, [], ◌∷◌, None, Option, Some, IsTrue, append_assoc, arith, eq-eqb, flat_map, le-leb, leb-true, length, length-append, nat_le, refl, slice_get}
+use Rattle.std.proofs.Common.{◌≡◌, ◌*◌, ◌+◌, ◌++◌, ◌<◌, ◌==◌, ◌≤◌, ℕ, zero, suc, Bool, List, [], ◌∷◌, None, Option, Some, IsTrue, append_assoc, arith, eq-eqb, le-leb, leb-true, length, length-append, nat_le, refl, slice_get}
 use Rattle.std.specs.List.{list_all}
 use Rattle.std.proofs.lemmas.Bool.{and_from, and_parts}
 use Rattle.std.proofs.lemmas.Option.{none-some}
 use Rattle.cyp_heap.proofs.PrefixTuples.{is_prefix-append}
-use Rattle.cyp_heap.specs.Chunks.{insts, without}
+use Rattle.cyp_heap.specs.Chunks.{without}
 use Rattle.cyp_heap.specs.Formed.{IsWellLinked, insts_fit, is_prefix, tuples_grow, tuples_short}
 use Rattle.cyp_heap.specs.Limits.{is_within_limits}
 use Rattle.cyp_heap.specs.declared.chunk.Chunk.{Chunk}
@@ -17,7 +17,6 @@ use Rattle.cyp_step.proofs.GoalWithin.{within_alone}
 use Rattle.cyp_step.specs.Changes.{pre_of}
 use Rattle.cyp_step.specs.Nodes.{IsNode}
 use Rattle.cyp_step.specs.Unfolding.{card_terms, cards_of, last_tuple, open_link}
-use Rattle.cyp_term.specs.declared.term.Term.{Term}
 use Rattle.cyp_term.specs.declared.term.Var.{Var}
 
 -- ---- one companion more
@@ -74,13 +73,13 @@ module _ (n : Node) (w : IsNode n) (i : ℕ) (j : InstOf) (at : slice_get (pre_o
   measure_short =
       rw (length-append (last_tuple n.links ++ card_terms j.card) (cards_of (without (pre_of n) i)), length-append (last_tuple n.links) (card_terms j.card))
       (omega (
-          arith,
-          last_short 16 n.links (omega arith) w.raw.linked.short,
-          card_short j.card,
-          cards_short (without (pre_of n) i),
-          length-without (pre_of n) i (Inst j) at,
-          pre_short,
-        ))
+        arith,
+        last_short 16 n.links (omega arith) w.raw.linked.short,
+        card_short j.card,
+        cards_short (without (pre_of n) i),
+        length-without (pre_of n) i (Inst j) at,
+        pre_short,
+      ))
 
   measure_goes_on : IsTrue (is_prefix (last_tuple n.links) (open_link n i j).tuple)
   measure_goes_on =

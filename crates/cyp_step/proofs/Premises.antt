@@ -1,39 +1,21 @@
 -- Premises of a node are well linked, and nodes again where instances in clauses fit.
-use Rattle.std.proofs.Common.{◌&&◌, ◌==◌, ◌≡◌, ◌∷◌, List, [], None, Option, Some, IfSome, IsTrue, length, map, option_map, refl, slice_get, subst, sym}
+use Rattle.std.proofs.Common.{◌≡◌, ◌∷◌, List, [], Option, Some, IfSome, subst}
 use Rattle.std.specs.List.{All, AllByRecursion}
-use Rattle.std.specs.Option.{option_and_then}
 use Rattle.std.proofs.lemmas.Option.{IfSome_then}
-use Rattle.std.proofs.lemmas.List.Elements.{All-from_recursion}
-use Rattle.cyp_goal.proofs.LinksFit.{FitsPost, FitsPre, insts_fit_from, sides_fit}
-use Rattle.cyp_goal.proofs.LinksNormal.{FitsOver, IfSome-and_then, IsKeptWithin, normal_bare, normal_fits, normal_linked}
-use Rattle.cyp_goal.specs.Facts.{facts}
+use Rattle.std.proofs.lemmas.List.Elements.{All-from_recursion, All-weaker}
+use Rattle.cyp_goal.proofs.LinksNormal.{IfSome-and_then, normal_linked}
 use Rattle.cyp_goal.specs.Normal.{Renaming, normal}
-use Rattle.cyp_heap.proofs.PrefixTuples.{IsWellLinked-none}
-use Rattle.cyp_heap.specs.Formed.{IsWellLinked, insts_fit}
+use Rattle.cyp_heap.specs.Formed.{IsWellLinked}
 use Rattle.cyp_heap.specs.Goals.{wide_node}
-use Rattle.cyp_heap.specs.declared.goal.Goal.{Goal}
-use Rattle.cyp_heap.specs.declared.goal.Link.{Link}
 use Rattle.cyp_heap.specs.declared.goal.Node.{Node}
-use Rattle.cyp_heap.specs.declared.pred.Preds.{Preds}
-use Rattle.cyp_step.proofs.ChunkLists.{Every-map, Every-slice_get, IfSome-map, list_all-slice_get}
-use Rattle.cyp_step.proofs.FlatRaws.{alloc_left, frame_left, free_left, pick_left, read_left, write_left}
+use Rattle.cyp_step.proofs.ChunkLists.{Every-map, IfSome-map}
 use Rattle.cyp_step.proofs.EachRule.{raws_left}
 use Rattle.cyp_step.proofs.Root.{fits_over, normal_node}
-use Rattle.cyp_step.proofs.RawNodes.{AreLeft, IsLeft, by_option, by_test, its_sides}
-use Rattle.cyp_step.proofs.UnfoldedRaws.{call_left, close_left, open_left}
-use Rattle.cyp_step.specs.Changes.{Raws, post_of, pre_of}
-use Rattle.cyp_step.specs.Laws.{LeftNodesAreRaw, PremisesAreNodes, PremisesAreWellLinked, RootIsNode, RootIsWellLinked}
-use Rattle.cyp_step.specs.Nodes.{IsNode, IsOver, IsRaw, clauses_fit}
-use Rattle.cyp_step.specs.Shown.{shown}
+use Rattle.cyp_step.proofs.RawNodes.{IsLeft, by_option, by_test}
+use Rattle.cyp_step.specs.Laws.{LeftNodesAreRaw, PremisesAreNodes, PremisesAreWellLinked}
+use Rattle.cyp_step.specs.Nodes.{IsNode, IsOver, IsRaw}
 use Rattle.cyp_step.specs.Step.{all_normal, nodes_of, premises, raws, renamed_premises}
 use Rattle.cyp_step.specs.declared.rule.Rule.{Rule}
-use Rattle.cyp_step.specs.declared.rule.Rule.TheVariants.{ByAlloc, ByCall, ByClose, ByEmp, ByFrame, ByFree, ByInconsistent, ByOpen, ByPick, ByRead, ByWrite}
-use Rattle.cyp_term.specs.Entailment.{satisfiable}
-use Rattle.cyp_unify.specs.Frames.{focus}
-
-recursion_weaker : {A : Type 0} (P Q : A → Type 0) → ((x : A) → P x → Q x) → (xs : List A) → AllByRecursion P xs → AllByRecursion Q xs
-recursion_weaker P Q f [] h = tt
-recursion_weaker P Q f (x ∷ xs) h = (f x h.0, recursion_weaker P Q f xs h.1)
 
 -- ---- normal forms of all
 
@@ -43,10 +25,10 @@ module _ (P : Node → Type 0) (Q : Renaming → Type 0) (to : (m : Node) → P 
   all_normal_kept (n ∷ ns) h =
       by_test (wide_node n) (λ e. rw (e, all_normal) tt)
       (λ e. rw (e, all_normal)
-        (by_option (normal n) (λ d. rw d tt)
-          (λ r d. rw d
-            (IfSome-map (AllByRecursion Q) (AllByRecursion Q) (λ (rs : List Renaming). r ∷ rs) (λ rs k. (subst (λ (o : Option Renaming). IfSome o Q) d (to n h.0), k)) (all_normal ns)
-              (all_normal_kept ns h.1)))))
+      (by_option (normal n) (λ d. rw d tt)
+      (λ r d. rw d
+      (IfSome-map (AllByRecursion Q) (AllByRecursion Q) (λ (rs : List Renaming). r ∷ rs) (λ rs k. (subst (λ (o : Option Renaming). IfSome o Q) d (to n h.0), k)) (all_normal ns)
+      (all_normal_kept ns h.1)))))
 
 module _ (n : Node) (w : IsNode n) (R : Node → Type 0) (to : (m : Node) → IsLeft n m → IfSome (normal m) (λ (s : Renaming). R s.node)) where
   premises_each : (r : Rule) → IfSome (premises n r) (AllByRecursion R)
@@ -62,11 +44,10 @@ each_of R o ms h e = All-from_recursion R ms (subst (λ (p : Option (List Node))
 
 pub left_nodes_are_raw : LeftNodesAreRaw
 left_nodes_are_raw n r ms k w e =
-    each_of (IsOver n.preds IsRaw) (raws n r) ms
-    (IfSome_then (raws n r) (raws_left n w r)
-      (λ ns h. recursion_weaker (IsLeft n) (IsOver n.preds IsRaw)
-        (λ m l. record { same = l.same; fact = record { fits = fits_over n.preds m (record { same = l.same; sides = l.fits k }); linked = l.linked } }) ns h))
-    e
+    All-weaker (IsLeft n) (IsOver n.preds IsRaw)
+    (λ m l. record { same = l.same; fact = record { fits = fits_over n.preds m (record { same = l.same; sides = l.fits k }); linked = l.linked } })
+    ms
+    (each_of (IsLeft n) (raws n r) ms (raws_left n w r) e)
 
 pub premises_are_well_linked : PremisesAreWellLinked
 premises_are_well_linked n r ms w e =

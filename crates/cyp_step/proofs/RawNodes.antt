@@ -1,5 +1,5 @@
 -- What a rule leaves to do before the normal form: nodes over the same predicates, well linked, with instances that fit.
-use Rattle.std.proofs.Common.{◌≡◌, ◌∷◌, Bool, List, [], None, Option, Some, IfSome, IsTrue, false, refl, true}
+use Rattle.std.proofs.Common.{◌≡◌, ◌∷◌, Bool, [], None, Option, Some, IfSome, IsTrue, false, refl, true}
 use Rattle.std.specs.List.{AllByRecursion}
 use Rattle.cyp_goal.proofs.LinksFit.{FitsPost, FitsPre, SidesFit, sides_fit}
 use Rattle.cyp_heap.proofs.PrefixTuples.{IsWellLinked-goal}

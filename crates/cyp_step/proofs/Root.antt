@@ -1,33 +1,15 @@
 -- A normal form of a well linked node with instances that fit is a node; so is the root.
-use Rattle.std.proofs.Common.{◌&&◌, ◌==◌, ◌≡◌, ◌∷◌, List, [], None, Option, Some, IfSome, IsTrue, length, map, option_map, refl, slice_get, subst, sym}
-use Rattle.std.specs.List.{All, AllByRecursion}
-use Rattle.std.specs.Option.{option_and_then}
+use Rattle.std.proofs.Common.{◌≡◌, [], None, Option, Some, IfSome, IsTrue, refl, subst, sym}
 use Rattle.std.proofs.lemmas.Option.{IfSome_then}
-use Rattle.std.proofs.lemmas.List.Elements.{All-from_recursion}
-use Rattle.cyp_goal.proofs.LinksFit.{FitsPost, FitsPre, insts_fit_from, sides_fit}
-use Rattle.cyp_goal.proofs.LinksNormal.{FitsOver, IfSome-and_then, IsKeptWithin, normal_bare, normal_fits, normal_linked}
-use Rattle.cyp_goal.specs.Facts.{facts}
+use Rattle.cyp_goal.proofs.LinksFit.{insts_fit_from, sides_fit}
+use Rattle.cyp_goal.proofs.LinksNormal.{FitsOver, IsKeptWithin, normal_bare, normal_fits, normal_linked}
 use Rattle.cyp_goal.specs.Normal.{Renaming, normal}
 use Rattle.cyp_heap.proofs.PrefixTuples.{IsWellLinked-none}
 use Rattle.cyp_heap.specs.Formed.{IsWellLinked, insts_fit}
-use Rattle.cyp_heap.specs.Goals.{wide_node}
-use Rattle.cyp_heap.specs.declared.goal.Goal.{Goal}
-use Rattle.cyp_heap.specs.declared.goal.Link.{Link}
 use Rattle.cyp_heap.specs.declared.goal.Node.{Node}
 use Rattle.cyp_heap.specs.declared.pred.Preds.{Preds}
-use Rattle.cyp_step.proofs.ChunkLists.{Every-map, Every-slice_get, IfSome-map, list_all-slice_get}
-use Rattle.cyp_step.proofs.FlatRaws.{alloc_left, frame_left, free_left, pick_left, read_left, write_left}
-use Rattle.cyp_step.proofs.RawNodes.{AreLeft, IsLeft, by_option, by_test, its_sides}
-use Rattle.cyp_step.proofs.UnfoldedRaws.{call_left, close_left, open_left}
-use Rattle.cyp_step.specs.Changes.{Raws, post_of, pre_of}
-use Rattle.cyp_step.specs.Laws.{LeftNodesAreRaw, PremisesAreNodes, PremisesAreWellLinked, RootIsNode, RootIsWellLinked}
-use Rattle.cyp_step.specs.Nodes.{IsNode, IsOver, IsRaw, clauses_fit}
-use Rattle.cyp_step.specs.Shown.{shown}
-use Rattle.cyp_step.specs.Step.{all_normal, nodes_of, premises, raws, renamed_premises}
-use Rattle.cyp_step.specs.declared.rule.Rule.{Rule}
-use Rattle.cyp_step.specs.declared.rule.Rule.TheVariants.{ByAlloc, ByCall, ByClose, ByEmp, ByFrame, ByFree, ByInconsistent, ByOpen, ByPick, ByRead, ByWrite}
-use Rattle.cyp_term.specs.Entailment.{satisfiable}
-use Rattle.cyp_unify.specs.Frames.{focus}
+use Rattle.cyp_step.specs.Laws.{RootIsNode, RootIsWellLinked}
+use Rattle.cyp_step.specs.Nodes.{IsNode, IsOver}
 
 -- the node's instances fit its own predicates, which are these
 pub fits_over : (preds : Preds) (m : Node) → FitsOver preds m → IsTrue (insts_fit m.preds m.goal)
@@ -43,16 +25,15 @@ normal_node preds m linked fits =
     let P : Renaming → Type 0 = IsKeptWithin IsWellLinked in
     let Q : Renaming → Type 0 = IsKeptWithin (FitsOver preds) in
     IfSome_then (normal m) (IfSome_both P Q (normal m) (normal_linked m linked) (normal_fits preds m fits)) (λ s k. record {
-        same = k.1.fact.same;
-        fact = record { within = k.0.within; raw = record { fits = fits_over preds s.node k.1.fact; linked = k.0.fact } };
-      })
+      same = k.1.fact.same;
+      fact = record { within = k.0.within; raw = record { fits = fits_over preds s.node k.1.fact; linked = k.0.fact } };
+    })
 
 -- ---- the root
 
 pub root_is_well_linked : RootIsWellLinked
 root_is_well_linked preds g r e =
-    let m : Node = record { preds = preds; goal = g; links = [] } in
-    (
+    let m : Node = record { preds = preds; goal = g; links = [] } in (
       (subst (λ (o : Option Renaming). IfSome o (IsKeptWithin (λ (s : Node). s.links ≡ []))) e (normal_bare m refl)).fact,
       (subst (λ (o : Option Renaming). IfSome o (IsKeptWithin IsWellLinked)) e (normal_linked m (IsWellLinked-none preds g))).fact,
     )

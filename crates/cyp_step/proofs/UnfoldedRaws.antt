@@ -1,10 +1,10 @@
 -- What Call, Open and Close leave to do.
-use Rattle.std.proofs.Common.{◌&&◌, ◌++◌, ◌-◌, ◌<◌, ◌≡◌, ◌∷◌, ℕ, zero, suc, Bool, List, [], None, Option, Some, IfSome, IsTrue, arith, cond, false, is_none, length, ltb-true, map, nat_lt, refl, slice_get, subst, true}
+use Rattle.std.proofs.Common.{◌&&◌, ◌≡◌, ◌∷◌, ℕ, zero, suc, Bool, List, [], None, Option, Some, IfSome, IsTrue, is_none, length, ltb-true, map, nat_lt, refl, slice_get, subst}
 use Rattle.std.specs.List.{AllByRecursion, list_all, list_any}
 use Rattle.std.specs.Prelude.{◌==◌}
-use Rattle.std.proofs.lemmas.Bool.{and_from, and_parts, cond_both, false≢true}
+use Rattle.std.proofs.lemmas.Bool.{and_parts, cond_both, false≢true}
 use Rattle.cyp_goal.proofs.LinksFit.{FitsPost, FitsPre, applied_insts, passes_first, sides_fit}
-use Rattle.cyp_heap.specs.Chunks.{apply_chunk, insts, put_all, without}
+use Rattle.cyp_heap.specs.Chunks.{apply_chunk, insts, without}
 use Rattle.cyp_heap.specs.Formed.{inst_fits, insts_fit, is_card_var}
 use Rattle.cyp_heap.specs.declared.chunk.Chunk.{Chunk}
 use Rattle.cyp_heap.specs.declared.chunk.Chunk.TheVariants.{Block, Cell, Inst}
@@ -14,10 +14,10 @@ use Rattle.cyp_heap.specs.declared.goal.Node.{Node}
 use Rattle.cyp_heap.specs.declared.pred.Clause.{Clause}
 use Rattle.cyp_heap.specs.declared.pred.Pred.{Pred}
 use Rattle.cyp_heap.specs.declared.pred.Preds.{Preds}
-use Rattle.cyp_pred.specs.Unfold.{clause_subst, clauses_of, new_ints, new_sets, unfold_clause, unfold_inst, with_tags}
+use Rattle.cyp_pred.specs.Unfold.{clause_subst, clauses_of, unfold_clause, unfold_inst, with_tags}
 use Rattle.cyp_pred.specs.declared.unfolded.Next.{Next}
 use Rattle.cyp_pred.specs.declared.unfolded.Unfolded.{Unfolded}
-use Rattle.cyp_step.proofs.ChunkLists.{Every-map, Every-put_all, Every-slice_get, Every-without, IfSome-map}
+use Rattle.cyp_step.proofs.ChunkLists.{Every-map, Every-put_all, Every-slice_get, Every-without}
 use Rattle.cyp_step.proofs.OpenedLink.{opened_linked}
 use Rattle.cyp_step.proofs.RawNodes.{AreLeft, IsLeft, by_option, by_test, its_sides, left_goal, left_one}
 use Rattle.cyp_step.specs.Calling.{after_call, chunks_at, chunks_beside, is_callable, next_tag, raw_call, with_exist, with_new_cards}
@@ -71,10 +71,11 @@ module _ (preds : Preds) where
   module _ (P : Chunk → Type 0) (j : InstOf) (next : Next) (tagged : (cs : List Chunk) → IsTrue (fit cs) → AllByRecursion P (with_tags j.card (suc j.tag) next.cards cs)) where
     each_fits : (cs : List Clause) → (IsTrue (clauses_fit preds) → IsTrue (list_all (clause_fits preds) cs)) → AllByRecursion (EntryFits P) (map (unfold_clause j next) cs)
     each_fits [] h = tt
-    each_fits (c ∷ cs) h =
-        (λ k. tagged (map (apply_chunk (clause_subst j.args c next)) c.heap.chunks)
+    each_fits (c ∷ cs) h = (
+      λ k. tagged (map (apply_chunk (clause_subst j.args c next)) c.heap.chunks)
           (applied_insts (clause_subst j.args c next) preds c.heap.chunks (and_parts (clause_fits preds c) (list_all (clause_fits preds) cs) (h k)).0),
-          each_fits cs (λ k. (and_parts (clause_fits preds c) (list_all (clause_fits preds) cs) (h k)).1))
+      each_fits cs (λ k. (and_parts (clause_fits preds c) (list_all (clause_fits preds) cs) (h k)).1),
+    )
 
     entries_fit : AllByRecursion (EntryFits P) (unfold_inst preds j next)
     entries_fit = each_fits (clauses_of (slice_get preds.list j.pred)) (clauses_of_fit preds.list j.pred)
@@ -110,7 +111,7 @@ module _ (n : Node) (w : IsNode n) where
           let bare : InstOf → Bool = λ i. is_none i.card in
           Every-put_all (FitsPre n.preds) (chunks_beside 0 f.pairs (pre_of n)) (with_new_cards tag next.cards chunks)
           (new_cards_fit n.preds tag next.cards chunks
-            (applied_insts by n.preds l.goal.post.chunks (passes_first (inst_fits n.preds) bare l.goal.post.chunks (sides_fit n.preds l.goal fits).post)))
+          (applied_insts by n.preds l.goal.post.chunks (passes_first (inst_fits n.preds) bare l.goal.post.chunks (sides_fit n.preds l.goal fits).post)))
           (beside_kept (FitsPre n.preds) 0 f.pairs (pre_of n) pre)
 
   pub open_left : (i : ℕ) (o : Option Chunk) → slice_get (pre_of n) i ≡ o → IfSome o (FitsPre n.preds) → AreLeft n (raw_open n i o)
@@ -121,18 +122,18 @@ module _ (n : Node) (w : IsNode n) where
       let all : Bool = list_all (λ (u : Unfolded). is_testable n.goal u.guard) entries in
       by_test (few && nat_lt j.tag 255 && all)
       (λ e. rw e
-        (let room : IsTrue few = (and_parts few (nat_lt j.tag 255) (and_parts (few && nat_lt j.tag 255) all e).0).0 in
-          Every-map (IsLeft n) (EntryFits n.preds (FitsPre n.preds)) (open_premise n i (open_link n i j))
-          (λ u k. record {
-              same = refl;
-              linked = opened_linked n w i j at (ltb-true (length n.links) 4 room) (open_premise n i (open_link n i j) u).goal;
-              fits = λ c. record {
-                pre = Every-put_all (FitsPre n.preds) (without (pre_of n) i) u.heap.chunks (k c) (Every-without (FitsPre n.preds) (pre_of n) i pre);
-                post = post;
-              };
-            })
-          entries
-          (entries_fit n.preds (FitsPre n.preds) j next (tagged_pre n.preds (suc j.tag) j.card h.1 next.cards))))
+      (let room : IsTrue few = (and_parts few (nat_lt j.tag 255) (and_parts (few && nat_lt j.tag 255) all e).0).0 in
+      Every-map (IsLeft n) (EntryFits n.preds (FitsPre n.preds)) (open_premise n i (open_link n i j))
+      (λ u k. record {
+        same = refl;
+        linked = opened_linked n w i j at (ltb-true (length n.links) 4 room) (open_premise n i (open_link n i j) u).goal;
+        fits = λ c. record {
+          pre = Every-put_all (FitsPre n.preds) (without (pre_of n) i) u.heap.chunks (k c) (Every-without (FitsPre n.preds) (pre_of n) i pre);
+          post = post;
+        };
+      })
+      entries
+      (entries_fit n.preds (FitsPre n.preds) j next (tagged_pre n.preds (suc j.tag) j.card h.1 next.cards))))
       (λ e. rw e tt)
   open_left i _ at h = tt
 
@@ -142,16 +143,18 @@ module _ (n : Node) (w : IsNode n) where
       let entries : List Unfolded = unfold_inst n.preds j next in
       by_test (nat_lt j.tag 255)
       (λ e. rw e
-        (by_option (slice_get entries c) (λ d. rw d tt)
-          (λ u d. rw d
-            (left_goal n w _ (λ k. record {
-                  pre = pre;
-                  post = Every-put_all (FitsPost n.preds) (without (post_of n) 0) u.heap.chunks
-                  (subst (λ (o : Option Unfolded). IfSome o (EntryFits n.preds (FitsPost n.preds))) d
-                    (Every-slice_get (EntryFits n.preds (FitsPost n.preds)) entries c
-                      (entries_fit n.preds (FitsPost n.preds) j next (tagged_post n.preds (suc j.tag) j.card h.1 next.cards)))
-                    k)
-                  (Every-without (FitsPost n.preds) (post_of n) 0 post);
-                }), tt))))
+      (by_option (slice_get entries c) (λ d. rw d tt)
+      (λ u d. rw d (
+        left_goal n w _ (λ k. record {
+          pre = pre;
+          post = Every-put_all (FitsPost n.preds) (without (post_of n) 0) u.heap.chunks
+              (subst (λ (o : Option Unfolded). IfSome o (EntryFits n.preds (FitsPost n.preds))) d
+              (Every-slice_get (EntryFits n.preds (FitsPost n.preds)) entries c
+              (entries_fit n.preds (FitsPost n.preds) j next (tagged_post n.preds (suc j.tag) j.card h.1 next.cards)))
+              k)
+              (Every-without (FitsPost n.preds) (post_of n) 0 post);
+        }),
+        tt,
+      ))))
       (λ e. rw e tt)
   close_left c _ h = tt
