@@ -1,5 +1,6 @@
 pub mod ChunkLists
 pub mod EachRule
+mod Examples
 pub mod FlatRaws
 pub mod GoalWithin
 pub mod OpenedLink
