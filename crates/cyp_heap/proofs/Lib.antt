@@ -1,10 +1,10 @@
-pub mod Unions
-pub mod CellCounts
-pub mod Heights
-pub mod Guards
-pub mod Listings
-pub mod SameChunks
-pub mod Applied
 pub mod Agreement
+pub mod Applied
 pub mod Bounds
-mod Examples
+pub mod CellCounts
+pub mod Guards
+pub mod Heights
+pub mod Listings
+pub mod PrefixTuples
+pub mod SameChunks
+pub mod Unions
