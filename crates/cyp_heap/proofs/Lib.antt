@@ -2,6 +2,7 @@ pub mod Agreement
 pub mod Applied
 pub mod Bounds
 pub mod CellCounts
+mod Examples
 pub mod Guards
 pub mod Heights
 pub mod Listings
