@@ -1,0 +1,20 @@
+ghost use Rattle.cyp_machine.specs.Laws.{HaltedHasNoStep, LeastIsAStep, LeastIsOne, LeastIsThere, RunGoesOn};
+
+/// Law: a state of a run of a program whose called procedures are all there has ended, or its next
+/// step faults, or it has a next step.
+pub fn run_goes_on_or_halts()
+    ensures { RunGoesOn }
+{}
+
+/// Law: a state that has ended, or whose next step faults, has no next step.
+pub fn halted_state_has_no_step()
+    ensures { HaltedHasNoStep }
+{}
+
+/// Law: where a state has a next step it has one with the least allocation, one alone, and that is
+/// among its steps.
+pub fn least_allocation_makes_one_step()
+    ensures there { LeastIsThere }
+    ensures allowed { LeastIsAStep }
+    ensures alone { LeastIsOne }
+{}
