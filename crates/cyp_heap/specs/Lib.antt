@@ -4,3 +4,6 @@ pub mod Goals
 pub mod Limits
 pub mod Formed
 pub mod Stores
+pub mod Instances
+pub mod Assertions
+pub mod PredsFormed
