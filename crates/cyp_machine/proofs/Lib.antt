@@ -1,0 +1,4 @@
+pub mod FreeBases
+pub mod Going
+pub mod Least
+pub mod Options

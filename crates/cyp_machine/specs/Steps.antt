@@ -1,5 +1,5 @@
 -- One step of a program: a relation between states.
-use Rattle.std.specs.Prelude.{[], ◌+ℤ◌, ◌<ℤ◌, ◌≡◌, Bool, IsTrue, List, None, Some, cond, int_le, is_none, is_some, length, map, pos, slice_get, suc, true, zero, ℕ, ℤ, ◌∷◌}
+use Rattle.std.specs.Prelude.{[], ◌+ℤ◌, ◌<ℤ◌, ◌≡◌, ◌≤ℤ◌, Bool, IsTrue, List, None, Some, cond, is_none, is_some, length, map, pos, slice_get, suc, zero, ℕ, ℤ, ◌∷◌}
 use Rattle.std.specs.FinMap.{FinMap, get, insert, remove}
 use Rattle.std.specs.List.{list_all}
 use Rattle.std.specs.Ordering.{int_cmp, int_eq}
@@ -49,7 +49,7 @@ any_pick h n a zs = Unit {0}
 
 -- the least free base, and zeros
 abbrev pub least_pick : Picks
-least_pick h n a zs = ((b : ℤ) → IsFree h b n → IsTrue (int_le a b)) × IsTrue (list_all (int_eq (pos 0)) zs)
+least_pick h n a zs = ((b : ℤ) → IsFree h b n → a ≤ℤ b) × IsTrue (list_all (int_eq (pos 0)) zs)
 
 -- ---- steps
 
