@@ -1,0 +1,27 @@
+-- Laws of the bound on steps.
+use Rattle.std.specs.Prelude.{[], ◌+◌, List, length, max, replicate, suc, zero, ℕ, ◌∷◌, ◌≡◌, ◌≤◌}
+use Rattle.cyp_kernel.specs.Bound.{bound, times}
+
+-- the greatest of w at each measure that is one less at one place and starts again from z at each later place, from z + 1 on
+abbrev pub greatest_below : (List ℕ → ℕ → ℕ) → List ℕ → ℕ → ℕ
+greatest_below w [] z = 0
+greatest_below w (zero ∷ ms) z = greatest_below (λ ks. w (0 ∷ ks)) ms z
+greatest_below w (suc a ∷ ms) z = max (w (a ∷ replicate (length ms) z) (suc z)) (greatest_below (λ ks. w (suc a ∷ ks)) ms z)
+
+-- the bound in one line: as often as a body has steps, nine more or what a call at a smaller measure comes to
+abbrev pub BoundLaw : Type 0
+BoundLaw = (steps : ℕ) (m : List ℕ) (y : ℕ) → bound steps m y ≡ times steps (λ z. max (z + 9) (greatest_below (bound steps) m z)) y
+
+-- the measures have as many places, and each number of the first is at most that of the second
+abbrev pub AtMostEach : List ℕ → List ℕ → Type 0
+AtMostEach [] [] = Unit {0}
+AtMostEach (a ∷ as') (b ∷ bs) = (a ≤ b) × AtMostEach as' bs
+AtMostEach _ _ = ⊥
+
+-- the bound grows with the number of steps, with each number of the measure and with the number that it begins from
+abbrev pub BoundGrows : Type 0
+BoundGrows = (steps more : ℕ) (m k : List ℕ) (y z : ℕ) → steps ≤ more → AtMostEach m k → y ≤ z → bound steps m y ≤ bound more k z
+
+-- the bound is never below the number that it begins from
+abbrev pub BoundIsAbove : Type 0
+BoundIsAbove = (steps : ℕ) (m : List ℕ) (y : ℕ) → y ≤ bound steps m y
