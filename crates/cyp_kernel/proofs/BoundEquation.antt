@@ -1,5 +1,6 @@
 -- The bound meets its equation.
-use Rattle.std.proofs.Common.{[], ap, arith, length, List, max, refl, replicate, suc, zero, ◌+◌, ◌∙◌, ◌∷◌, ◌≡◌, ℕ}
+use Rattle.std.proofs.Common.{[], ap, arith, length, List, max, refl, replicate, suc, sym, zero, ◌+◌, ◌∙◌, ◌∷◌, ◌≡◌, ℕ}
+use Rattle.std.proofs.lemmas.List.{length-replicate}
 use Rattle.cyp_kernel.specs.Bound.{bound, bound_by_first, bound_by_places, times}
 use Rattle.cyp_kernel.specs.Laws.{BoundLaw, greatest_below}
 
@@ -43,4 +44,4 @@ bound_law steps m y =
     in_one_line : (z : ℕ) → at_place steps (λ z. 0) m z ≡ max (z + 9) (greatest_below (bound steps) m z)
     in_one_line z =
         ap (λ (k : ℕ). max (z + 9) (max 0 k))
-        (greatest_same (bound_by_places steps (length m) (λ v. 0)) (bound steps) m (λ ks e x i. bound_by_places steps (e (~i)) (λ v. 0) ks x) z) ∙ omega arith
+        (greatest_same (bound_by_places steps (length m) (λ v. 0)) (bound steps) m (λ ks e x. ap (λ (n : ℕ). bound_by_places steps n (λ v. 0) ks x) (sym e)) z) ∙ omega arith

@@ -1,1 +1,2 @@
 pub mod BoundEquation
+pub mod BoundGrowth
