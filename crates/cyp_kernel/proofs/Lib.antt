@@ -1,2 +1,5 @@
 pub mod BoundEquation
 pub mod BoundGrowth
+pub mod ClosedPrograms
+pub mod Examples
+pub mod LowerMeasures

@@ -4,4 +4,6 @@
 
 mod laws;
 
-pub use laws::{bound_grows, bound_in_one_line};
+pub use laws::{
+    bound_grows, bound_in_one_line, lower_measure_is_bounded, program_of_derivation_is_closed,
+};
