@@ -2,6 +2,7 @@
 use Rattle.std.proofs.Common.{Bool, List, None, Option, Some, [], ap, arith, cond, false, get_or, length, lt-ltb, ltb-true, map, not, refl, slice_get, slice_index, subst, suc, sym, true, zero, ◌&&◌, ◌+◌, ◌++◌, ◌<◌, ◌∙◌, ◌∷◌, ◌≡◌, ◌≤◌, ℕ, length-append}
 use Rattle.std.specs.Prelude.{nat_lt}
 use Rattle.std.specs.List.{list_all}
+use Rattle.std.proofs.lemmas.Bool.{and_from, and_parts}
 use Rattle.std.proofs.lemmas.List.Folds.{list_all-append}
 use Rattle.cyp_goal.specs.Normal.{Renaming}
 use Rattle.cyp_heap.specs.declared.chunk.Chunk.{Chunk}
@@ -26,14 +27,6 @@ use Rattle.cyp_unify.specs.Matches.{match_at}
 use Rattle.cyp_unify.specs.declared.found.Match.{Match}
 use Rattle.cyp_unify.specs.declared.found.Mend.{Mend}
 
-both : (a b : Bool) → a ≡ true → b ≡ true → (a && b) ≡ true
-both true b p q = q
-both false b p q = cc
-
-both_parts : (a b : Bool) → (a && b) ≡ true → (a ≡ true) × (b ≡ true)
-both_parts true b h = (refl, h)
-both_parts false b h = cc
-
 -- all that follows is of a program of this many procedures, of which there is one
 module _ (total : ℕ) (some : 0 < total) where
   abbrev are_below : List ℕ → Bool
@@ -46,16 +39,16 @@ module _ (total : ℕ) (some : 0 < total) where
 
   first-closed : (bs : List Body) → all_closed bs ≡ true → calls_below total (first_body bs) ≡ true
   first-closed [] h = refl
-  first-closed (b ∷ bs) h = (both_parts (calls_below total b) (all_closed bs) h).0
+  first-closed (b ∷ bs) h = (and_parts (calls_below total b) (all_closed bs) h).0
 
   choose-closed : (names : Names) (gs : List Lit) (bs : List Body) → all_closed bs ≡ true → calls_below total (choose names gs bs) ≡ true
   choose-closed names [] bs h = first-closed bs h
   choose-closed names (g ∷ []) bs h = first-closed bs h
   choose-closed names (g ∷ k ∷ gs) [] h = refl
   choose-closed names (g ∷ k ∷ gs) (b ∷ bs) h =
-      let parts = both_parts (calls_below total b) (all_closed bs) h in
-      both (calls_below total b && calls_below total (choose names (k ∷ gs) bs)) true
-          (both (calls_below total b) (calls_below total (choose names (k ∷ gs) bs)) parts.0 (choose-closed names (k ∷ gs) bs parts.1)) refl
+      let parts = and_parts (calls_below total b) (all_closed bs) h in
+      and_from (calls_below total b && calls_below total (choose names (k ∷ gs) bs)) true
+          (and_from (calls_below total b) (calls_below total (choose names (k ∷ gs) bs)) parts.0 (choose-closed names (k ∷ gs) bs parts.1)) refl
 
   stores-closed : (n : Node) (names : Names) (ms : List Mend) (b : Body) → calls_below total b ≡ true → calls_below total (stores n names ms b) ≡ true
   stores-closed n names [] b h = h
@@ -63,15 +56,15 @@ module _ (total : ℕ) (some : 0 < total) where
 
   index-below : (procs : List ℕ) (i : ℕ) → are_below procs ≡ true → nat_lt (slice_index procs i) total ≡ true
   index-below [] i h = lt-ltb 0 total some
-  index-below (p ∷ ps) zero h = (both_parts (nat_lt p total) (are_below ps) h).0
-  index-below (p ∷ ps) (suc i) h = index-below ps i (both_parts (nat_lt p total) (are_below ps) h).1
+  index-below (p ∷ ps) zero h = (and_parts (nat_lt p total) (are_below ps) h).0
+  index-below (p ∷ ps) (suc i) h = index-below ps i (and_parts (nat_lt p total) (are_below ps) h).1
 
   module _ (n : Node) (names : Names) (procs : List ℕ) (there : are_below procs ≡ true) where
     matched-closed : (c : CallBy) (b : Body) (l : Link) (f : Option Match) → calls_below total b ≡ true → calls_below total (matched_call n names procs c b l f) ≡ true
     matched-closed c b l None h = refl
     matched-closed c b l (Some f) h =
         stores-closed n names (in_cell_order (kept_mends (writes_for n.goal f))) _
-            (both (nat_lt (slice_index procs c.link) total) (calls_below total b) (index-below procs c.link there) h)
+            (and_from (nat_lt (slice_index procs c.link) total) (calls_below total b) (index-below procs c.link there) h)
 
     linked-closed : (c : CallBy) (b : Body) (l : Option Link) → calls_below total b ≡ true → calls_below total (linked_call n names procs c b l) ≡ true
     linked-closed c b None h = refl
@@ -93,10 +86,10 @@ module _ (total : ℕ) (some : 0 < total) where
   -- ---- the bodies of a derivation
 
   below-append : (xs ys : List ℕ) → are_below xs ≡ true → are_below ys ≡ true → are_below (xs ++ ys) ≡ true
-  below-append xs ys p q = list_all-append (λ k. nat_lt k total) xs ys ∙ both (are_below xs) (are_below ys) p q
+  below-append xs ys p q = list_all-append (λ k. nat_lt k total) xs ys ∙ and_from (are_below xs) (are_below ys) p q
 
   proc-below : (r : Rule) (self : ℕ) (procs : List ℕ) → self < total → are_below procs ≡ true → are_below (with_proc r self procs) ≡ true
-  proc-below (ByOpen i) self procs l h = below-append procs (self ∷ []) h (both (nat_lt self total) true (lt-ltb self total l) refl)
+  proc-below (ByOpen i) self procs l h = below-append procs (self ∷ []) h (and_from (nat_lt self total) true (lt-ltb self total l) refl)
   proc-below ByInconsistent self procs l h = h
   proc-below ByEmp self procs l h = h
   proc-below (ByRead i) self procs l h = h
@@ -127,7 +120,7 @@ module _ (total : ℕ) (some : 0 < total) where
         → calls_below total (body false 0 next names m procs d) ≡ true
     body-closed (Derived n r ds) next names m procs fits h =
         called-or (is_called n r ds) _ _
-            (λ e. both (nat_lt next total) true (lt-ltb next total (count-one (is_called n r ds) (called_counts ds) next e fits)) refl)
+            (λ e. and_from (nat_lt next total) true (lt-ltb next total (count-one (is_called n r ds) (called_counts ds) next e fits)) refl)
             (λ e. rule-closed n names procs h (suc m) r _
                 (bodies-closed ds next (with_new_name n r (suc m) names) (renamings (renamed_premises n r)) (bound_count r m) (with_proc r 0 procs)
                     (count-fits (is_called n r ds) (called_counts ds) next e fits) (proc-below r 0 procs some h)))
@@ -136,7 +129,7 @@ module _ (total : ℕ) (some : 0 < total) where
         → all_closed (bodies next names rs m procs ds) ≡ true
     bodies-closed NoMore next names rs m procs fits h = refl
     bodies-closed (More d ds) next names rs m procs fits h =
-        both (calls_below total (body false 0 next (head_names names rs) m procs d)) (all_closed (bodies (next + called_count d) names (tail_renamings rs) m procs ds))
+        and_from (calls_below total (body false 0 next (head_names names rs) m procs d)) (all_closed (bodies (next + called_count d) names (tail_renamings rs) m procs ds))
             (body-closed d next (head_names names rs) m procs (omega arith) h)
             (bodies-closed ds (next + called_count d) names (tail_renamings rs) m procs (omega arith) h)
 
@@ -146,7 +139,7 @@ module _ (total : ℕ) (some : 0 < total) where
   are_closed ps = list_all (λ (p : Procedure). calls_below total p.body) ps
 
   closed-append : (ps qs : List Procedure) → are_closed ps ≡ true → are_closed qs ≡ true → are_closed (ps ++ qs) ≡ true
-  closed-append ps qs p q = list_all-append (λ (r : Procedure). calls_below total r.body) ps qs ∙ both (are_closed ps) (are_closed qs) p q
+  closed-append ps qs p q = list_all-append (λ (r : Procedure). calls_below total r.body) ps qs ∙ and_from (are_closed ps) (are_closed qs) p q
 
   procedure-closed : (name : List ℕ) (self : ℕ) (procs : List ℕ) (n : Node) (r : Rule) (ds : Proofs) → suc self + called_counts ds ≤ total → are_below procs ≡ true
       → calls_below total (procedure name self procs (Derived n r ds)).body ≡ true
@@ -170,7 +163,7 @@ module _ (total : ℕ) (some : 0 < total) where
     procedures-closed (Derived n r ds) main next procs fits h =
         either-closed (is_called n r ds) _ _
             (λ e. let more = count-more (is_called n r ds) (called_counts ds) next e fits in
-                both (calls_below total (procedure (auxiliary_name main next) next procs (Derived n r ds)).body) (are_closed (procedures_in main (suc next) (with_proc r next procs) ds))
+                and_from (calls_below total (procedure (auxiliary_name main next) next procs (Derived n r ds)).body) (are_closed (procedures_in main (suc next) (with_proc r next procs) ds))
                     (procedure-closed (auxiliary_name main next) next procs n r ds more h)
                     (procedures_in-closed ds main (suc next) (with_proc r next procs) more (proc-below r next procs (omega arith) h)))
             (λ e. procedures_in-closed ds main next (with_proc r 0 procs) (count-fits (is_called n r ds) (called_counts ds) next e fits) (proc-below r 0 procs some h))
@@ -206,5 +199,5 @@ pub program_closed : ProgramIsClosed
 program_closed name (Derived n r ds) =
     let total : ℕ = length (program_of name (Derived n r ds)) in
     let counted = length-procedures_in ds (main_name name) 1 (with_proc r 0 []) in
-    both _ _ (procedure-closed total (omega arith) (main_name name) 0 [] n r ds (omega arith) refl)
+    and_from _ _ (procedure-closed total (omega arith) (main_name name) 0 [] n r ds (omega arith) refl)
         (procedures_in-closed total (omega arith) ds (main_name name) 1 (with_proc r 0 []) (omega arith) (proc-below total (omega arith) r 0 [] (omega arith) refl))

@@ -2,11 +2,10 @@
 use Rattle.std.proofs.Common.{Bool, List, None, Some, [], arith, cond, false, int_cmp, int_eq, is_none, length, max, nat_abs, negsuc, pos, refl, replicate, suc, sym, true, zero, ◌&&◌, ◌+◌, ◌+ℤ◌, ◌<ℤ◌, ◌∙◌, ◌∷◌, ◌≡◌, ◌≤ℤ◌, ◌≤◌, ℕ, ℤ, ap, Option}
 use Rattle.std.specs.FinMap.{FinMap, entries, find, get, get-entries}
 use Rattle.std.specs.List.{list_all}
-use Rattle.std.proofs.lemmas.Bool.{false≢true}
+use Rattle.std.proofs.lemmas.Bool.{and_from, and_parts, false≢true}
 use Rattle.std.proofs.lemmas.Bool.Decides.{Decides-int_eq}
 use Rattle.std.proofs.lemmas.Int.{ints}
 use Rattle.cyp_heap.specs.Stores.{Store}
-use Rattle.cyp_machine.proofs.Options.{both, both_parts}
 use Rattle.cyp_machine.specs.Steps.{IsFree, addresses, has_none}
 
 -- ---- no key is above all sizes of keys
@@ -35,7 +34,7 @@ module _ {X : Type 0} where
 no_cells : (m : FinMap int_cmp ℤ) (b n : ℕ) (z : ℤ) → greatest_key (entries m) ≤ b → pos b <ℤ z → has_none m (addresses z n) ≡ true
 no_cells m b zero z s l = refl
 no_cells m b (suc n) z s l =
-    both (is_none (get m z)) (has_none m (addresses (z +ℤ pos 1) n)) (ap is_none (get_none m b z s l)) (no_cells m b n (z +ℤ pos 1) s (omega (arith, ints)))
+    and_from (is_none (get m z)) (has_none m (addresses (z +ℤ pos 1) n)) (ap is_none (get_none m b z s l)) (no_cells m b n (z +ℤ pos 1) s (omega (arith, ints)))
 
 -- ---- the test of a positive base
 
@@ -48,11 +47,11 @@ none_of (Some x) h = absurd (false≢true h)
 
 free_of : (h : Store) (n j : ℕ) → is_free h n j ≡ true → IsFree h (pos (suc j)) n
 free_of h n j e =
-    let parts = both_parts (has_none h.cells (addresses (pos (suc j)) n)) (is_none (get h.blocks (pos (suc j)))) e in
+    let parts = and_parts (has_none h.cells (addresses (pos (suc j)) n)) (is_none (get h.blocks (pos (suc j)))) e in
     (omega (arith, ints), parts.0, none_of (get h.blocks (pos (suc j))) parts.1)
 
 is_free_of : (h : Store) (n j : ℕ) → IsFree h (pos (suc j)) n → is_free h n j ≡ true
-is_free_of h n j f = both (has_none h.cells (addresses (pos (suc j)) n)) (is_none (get h.blocks (pos (suc j)))) f.1 (ap is_none f.2)
+is_free_of h n j f = and_from (has_none h.cells (addresses (pos (suc j)) n)) (is_none (get h.blocks (pos (suc j)))) f.1 (ap is_none f.2)
 
 -- ---- the least number that passes a test
 
@@ -79,7 +78,7 @@ some_free h n =
     let cells : ℕ = greatest_key (entries h.cells) in
     let blocks : ℕ = greatest_key (entries h.blocks) in
     let j : ℕ = cells + blocks in
-    (j, both (has_none h.cells (addresses (pos (suc j)) n)) (is_none (get h.blocks (pos (suc j))))
+    (j, and_from (has_none h.cells (addresses (pos (suc j)) n)) (is_none (get h.blocks (pos (suc j))))
         (no_cells h.cells j n (pos (suc j)) (omega arith) (omega (arith, ints)))
         (ap is_none (get_none h.blocks j (pos (suc j)) (omega arith) (omega (arith, ints)))))
 
@@ -93,10 +92,6 @@ least_free h n =
     let some = some_free h n in
     let l = least (is_free h n) some.0 some.1 in
     (pos (suc l.0), free_of h n l.0 l.1.0, λ z f. below_free h n l.0 z l.1 f)
-
-pub zeros_length : (n : ℕ) → length (replicate n (pos 0)) ≡ n
-zeros_length zero = refl
-zeros_length (suc n) = ap suc (zeros_length n)
 
 pub zeros_zero : (n : ℕ) → list_all (int_eq (pos 0)) (replicate n (pos 0)) ≡ true
 zeros_zero zero = refl

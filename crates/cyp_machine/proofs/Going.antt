@@ -3,11 +3,12 @@ use Rattle.std.proofs.Common.{arith, inl, inr, ltb-true, ◌<◌, ◌≤◌, Boo
 use Rattle.std.specs.Prelude.{nat_lt}
 use Rattle.std.specs.FinMap.{get, insert, remove}
 use Rattle.std.specs.List.{list_all}
-use Rattle.std.proofs.lemmas.Bool.{false≢true}
+use Rattle.std.proofs.lemmas.Bool.{and_from, and_parts, false≢true}
+use Rattle.std.proofs.lemmas.List.{length-replicate}
 use Rattle.std.proofs.lemmas.Option.{slice_get_cases}
 use Rattle.cyp_heap.specs.Stores.{Store}
-use Rattle.cyp_machine.proofs.FreeBases.{least_free, zeros_length, zeros_zero}
-use Rattle.cyp_machine.proofs.Options.{both, both_parts, there, value_of}
+use Rattle.cyp_machine.proofs.FreeBases.{least_free, zeros_zero}
+use Rattle.cyp_machine.proofs.Options.{there, value_of}
 use Rattle.cyp_machine.specs.Closed.{IsClosed, calls_below, statement_calls_below}
 use Rattle.cyp_machine.specs.Faults.{body_fault, fault, frames_fault, is_whole, statement_fault}
 use Rattle.cyp_machine.specs.Laws.{LeastIsAStep, RunGoesOn}
@@ -24,8 +25,8 @@ module _ (n : ℕ) where
   calls-followed : (a b : Body) → calls_below n a ≡ true → calls_below n b ≡ true → calls_below n (followed_by a b) ≡ true
   calls-followed End b p q = q
   calls-followed (Then s a) b p q =
-      let parts = both_parts (statement_calls_below n s) (calls_below n a) p in
-      both (statement_calls_below n s) (calls_below n (followed_by a b)) parts.0 (calls-followed a b parts.1 q)
+      let parts = and_parts (statement_calls_below n s) (calls_below n a) p in
+      and_from (statement_calls_below n s) (calls_below n (followed_by a b)) parts.0 (calls-followed a b parts.1 q)
 
   calls-chosen : (t : Bool) (a b : Body) → calls_below n a ≡ true → calls_below n b ≡ true → calls_below n (cond t a b) ≡ true
   calls-chosen true a b p q = p
@@ -38,8 +39,8 @@ module _ (n : ℕ) where
   calls-called [] p q c e = cc
   calls-called (r ∷ qs) zero q c e =
       let same : r ≡ q = cc in
-      subst (λ (a : Procedure). calls_below n a.body ≡ true) same (both_parts (calls_below n r.body) (are_closed qs) c).0
-  calls-called (r ∷ qs) (suc p) q c e = calls-called qs p q (both_parts (calls_below n r.body) (are_closed qs) c).1 e
+      subst (λ (a : Procedure). calls_below n a.body ≡ true) same (and_parts (calls_below n r.body) (are_closed qs) c).0
+  calls-called (r ∷ qs) (suc p) q c e = calls-called qs p q (and_parts (calls_below n r.body) (are_closed qs) c).1 e
 
   -- some body is running, and the running bodies call what is there
   abbrev IsReady : List Frame → Type 0
@@ -52,11 +53,11 @@ module _ (n : ℕ) where
   ready_entry : (qs : List Procedure) (o : Option Procedure) (vs : Values) → ((q : Procedure) → o ≡ Some q → calls_below n q.body ≡ true)
       → IsReady (record { values = vs; rest = entry_body o } ∷ [])
   ready_entry qs None vs c = refl
-  ready_entry qs (Some q) vs c = both (calls_below n q.body) true (c q refl) refl
+  ready_entry qs (Some q) vs c = and_from (calls_below n q.body) true (c q refl) refl
 
   became : (t : State) (h : Store) (vs : Values) (rest : Body) (below : List Frame) → Becomes t h vs rest below
       → calls_below n rest ≡ true → are_ready below ≡ true → IsReady t.frames
-  became t h vs rest below e r b = subst (λ (s : State). IsReady s.frames) (sym e) (both (calls_below n rest) (are_ready below) r b)
+  became t h vs rest below e r b = subst (λ (s : State). IsReady s.frames) (sym e) (and_from (calls_below n rest) (are_ready below) r b)
 
 -- ---- what is ready stays so
 
@@ -69,9 +70,9 @@ module _ (ps : List Procedure) (closed : IsClosed ps) where
   statement_ready (Giving e) h vs rest below t st c r b = became (length ps) t _ _ rest below st.3 r b
   statement_ready (Invoking p es) h vs rest below t st c r b =
       became (length ps) t h (params_from 1 (map (expr_value vs) es)) st.0.body (record { values = vs; rest = rest } ∷ below) st.2
-      (calls-called (length ps) ps p st.0 closed st.1) (both (calls_below (length ps) rest) (are_ready (length ps) below) r b)
+      (calls-called (length ps) ps p st.0 closed st.1) (and_from (calls_below (length ps) rest) (are_ready (length ps) below) r b)
   statement_ready (Choosing q x y) h vs rest below t st c r b =
-      let parts = both_parts (calls_below (length ps) x) (calls_below (length ps) y) c in
+      let parts = and_parts (calls_below (length ps) x) (calls_below (length ps) y) c in
       became (length ps) t h vs (followed_by (cond (test_value vs q) x y) rest) below st
       (calls-followed (length ps) (cond (test_value vs q) x y) rest (calls-chosen (length ps) (test_value vs q) x y parts.0 parts.1) r) b
   statement_ready Failing h vs rest below t st c r b = absurd st
@@ -81,13 +82,13 @@ module _ (ps : List Procedure) (closed : IsClosed ps) where
   body_ready End h vs [] t st c b = absurd st
   body_ready End h vs (f ∷ below) t st c b = subst (λ (s : State). IsReady (length ps) s.frames) (sym st) b
   body_ready (Then s x) h vs below t st c b =
-      let parts = both_parts (statement_calls_below (length ps) s) (calls_below (length ps) x) c in
+      let parts = and_parts (statement_calls_below (length ps) s) (calls_below (length ps) x) c in
       statement_ready s h vs x below t st parts.0 parts.1 b
 
   frames_ready : (fs : List Frame) (h : Store) (t : State) → FramesStep any_pick ps h fs t → IsReady (length ps) fs → IsReady (length ps) t.frames
   frames_ready [] h t st r = absurd r
   frames_ready (f ∷ fs) h t st r =
-      let parts = both_parts (calls_below (length ps) f.rest) (are_ready (length ps) fs) r in
+      let parts = and_parts (calls_below (length ps) f.rest) (are_ready (length ps) fs) r in
       body_ready f.rest h f.values fs t st parts.0 parts.1
 
   run_ready : (n : ℕ) (s t : State) → Run ps n s t → IsReady (length ps) s.frames → IsReady (length ps) t.frames
@@ -119,7 +120,7 @@ module _ (ps : List Procedure) where
       (_, (there (is_some (get h.cells (expr_value vs a))) WriteMissing f, refl))
   statement_goes (Taking v n) h vs rest below c f =
       let a = least_free h n in
-      (_, (a.0, replicate n (pos 0), zeros_length n, a.1, (a.2, zeros_zero n), refl))
+      (_, (a.0, replicate n (pos 0), length-replicate n (pos 0), a.1, (a.2, zeros_zero n), refl))
   statement_goes (Giving e) h vs rest below c f =
       let w = whole_parts h (expr_value vs e) (get h.blocks (expr_value vs e)) (there (is_whole h (expr_value vs e) (get h.blocks (expr_value vs e))) FreeMissing f) in
       (_, (w.0, w.1, w.2, refl))
@@ -132,11 +133,11 @@ module _ (ps : List Procedure) where
       → (t : State) × BodyStep least_pick ps h vs x below t
   body_goes End h vs [] c e f = absurd (false≢true (sym e))
   body_goes End h vs (g ∷ below) c e f = (_, refl)
-  body_goes (Then s x) h vs below c e f = statement_goes s h vs x below (both_parts (statement_calls_below (length ps) s) (calls_below (length ps) x) c).0 f
+  body_goes (Then s x) h vs below c e f = statement_goes s h vs x below (and_parts (statement_calls_below (length ps) s) (calls_below (length ps) x) c).0 f
 
   frames_go : (fs : List Frame) (h : Store) → IsReady (length ps) fs → frames_ended fs ≡ false → frames_fault h fs ≡ None → (t : State) × FramesStep least_pick ps h fs t
   frames_go [] h r e f = absurd r
-  frames_go (g ∷ fs) h r e f = body_goes g.rest h g.values fs (both_parts (calls_below (length ps) g.rest) (are_ready (length ps) fs) r).0 e f
+  frames_go (g ∷ fs) h r e f = body_goes g.rest h g.values fs (and_parts (calls_below (length ps) g.rest) (are_ready (length ps) fs) r).0 e f
 
 -- ---- the least allocation is one that may be taken
 

@@ -2,10 +2,10 @@
 use Rattle.std.proofs.Common.{map, replicate, slice_get, true, IsTrue, List, None, Some, [], ap, arith, int_eq, length, pos, refl, suc, sym, zero, ◌&&◌, ◌∙◌, ◌∷◌, ◌≡◌, ◌≤ℤ◌, ℕ, ℤ, Option}
 use Rattle.std.specs.FinMap.{get, insert, remove}
 use Rattle.std.specs.List.{list_all}
+use Rattle.std.proofs.lemmas.Bool.{and_parts}
 use Rattle.std.proofs.lemmas.Bool.Decides.{Decides-int_eq}
 use Rattle.std.proofs.lemmas.Int.{ints}
 use Rattle.cyp_heap.specs.Stores.{Store}
-use Rattle.cyp_machine.proofs.Options.{both_parts}
 use Rattle.cyp_machine.specs.Laws.{LeastIsOne}
 use Rattle.cyp_machine.specs.States.{Frame, State}
 use Rattle.cyp_machine.specs.Steps.{BodyStep, FramesStep, IsFree, StatementStep, addresses, insert_all, least_pick, remove_all}
@@ -18,7 +18,7 @@ same_some o x y p q = cc
 all_zero : (zs : List ℤ) → list_all (int_eq (pos 0)) zs ≡ true → zs ≡ replicate (length zs) (pos 0)
 all_zero [] h = refl
 all_zero (z ∷ zs) h =
-    let parts = both_parts (int_eq (pos 0) z) (list_all (int_eq (pos 0)) zs) h in
+    let parts = and_parts (int_eq (pos 0) z) (list_all (int_eq (pos 0)) zs) h in
     λ i. (sym ((Decides-int_eq (pos 0) z).0 parts.0) i) ∷ (all_zero zs parts.1 i)
 
 same_zeros : (n : ℕ) (ys zs : List ℤ) → length ys ≡ n → length zs ≡ n → list_all (int_eq (pos 0)) ys ≡ true → list_all (int_eq (pos 0)) zs ≡ true → ys ≡ zs

@@ -1,4 +1,4 @@
--- Small facts on options and tests.
+-- Options that are something, and faults for want of something.
 use Rattle.std.proofs.Common.{Bool, None, Option, Some, cond, false, is_some, refl, true, ◌&&◌, ◌≡◌}
 use Rattle.std.proofs.lemmas.Bool.{false≢true}
 use Rattle.cyp_machine.specs.Faults.{unless_there}
@@ -12,14 +12,6 @@ value_of (Some x) h = (x, refl)
 pub some_there : {A : Type 0} (o : Option A) (x : A) → o ≡ Some x → is_some o ≡ true
 some_there None x h = cc
 some_there (Some y) x h = refl
-
-pub both_parts : (a b : Bool) → (a && b) ≡ true → (a ≡ true) × (b ≡ true)
-both_parts true b h = (refl, h)
-both_parts false b h = absurd (false≢true h)
-
-pub both : (a b : Bool) → a ≡ true → b ≡ true → (a && b) ≡ true
-both true b p q = q
-both false b p q = absurd (false≢true p)
 
 -- without a fault what is needed is there
 pub there : (b : Bool) (c : Cause) → unless_there b c ≡ None → b ≡ true
