@@ -1,5 +1,5 @@
 -- The bound meets its equation.
-use Rattle.std.proofs.Common.{[], ap, arith, length, List, max, refl, replicate, suc, sym, zero, ◌+◌, ◌∙◌, ◌∷◌, ◌≡◌, ℕ}
+use Rattle.std.proofs.Common.{[], ◌+◌, List, ap, arith, length, max, refl, replicate, suc, sym, zero, ℕ, ◌∙◌, ◌∷◌, ◌≡◌}
 use Rattle.std.proofs.lemmas.List.{length-replicate}
 use Rattle.cyp_kernel.specs.Bound.{bound, bound_by_first, bound_by_places, times}
 use Rattle.cyp_kernel.specs.Laws.{BoundLaw, greatest_below}
@@ -34,7 +34,7 @@ greatest_same w v [] same z = refl
 greatest_same w v (zero ∷ ms) same z = greatest_same (λ ks. w (0 ∷ ks)) (λ ks. v (0 ∷ ks)) ms (λ ks e y. same (0 ∷ ks) (ap suc e) y) z
 greatest_same w v (suc a ∷ ms) same z =
     λ i. max (same (a ∷ replicate (length ms) z) (ap suc (length-replicate (length ms) z)) (suc z) i)
-        (greatest_same (λ ks. w (suc a ∷ ks)) (λ ks. v (suc a ∷ ks)) ms (λ ks e y. same (suc a ∷ ks) (ap suc e) y) z i)
+    (greatest_same (λ ks. w (suc a ∷ ks)) (λ ks. v (suc a ∷ ks)) ms (λ ks e y. same (suc a ∷ ks) (ap suc e) y) z i)
 
 pub bound_law : BoundLaw
 bound_law steps m y =

@@ -1,5 +1,5 @@
 -- The bound grows with its arguments.
-use Rattle.std.proofs.Common.{[], List, ap, arith, cond, length, max, replicate, suc, sym, zero, refl, subst, ◌+◌, ◌∷◌, ◌≡◌, ◌≤◌, ℕ}
+use Rattle.std.proofs.Common.{[], ◌+◌, List, ap, arith, length, max, refl, replicate, subst, suc, zero, ℕ, ◌∷◌, ◌≡◌, ◌≤◌}
 use Rattle.cyp_kernel.specs.Bound.{bound_by_first, bound_by_places, first_number, later_numbers, times}
 use Rattle.cyp_kernel.specs.Laws.{AtMostEach, BoundGrows, BoundIsAbove}
 
@@ -81,18 +81,18 @@ first-grows w v grow places (suc a) (suc b) l above over g ms ks e y z q =
     let low : ℕ → ℕ = λ x. bound_by_first w places a above (replicate places x) (suc x) in
     let high : ℕ → ℕ = λ x. bound_by_first v places b over (replicate places x) (suc x) in
     grow (λ x. max (above x) (low x)) (λ x. max (over x) (high x))
-        (λ x u p. max-both (above x) (low x) (over u) (high u) (g x u p)
-            (first-grows w v grow places a b (omega arith) above over g (replicate places x) (replicate places u) (most-replicate places x u p) (suc x) (suc u) (omega arith)))
-        ms ks e y z q
+    (λ x u p. max-both (above x) (low x) (over u) (high u) (g x u p)
+    (first-grows w v grow places a b (omega arith) above over g (replicate places x) (replicate places u) (most-replicate places x u p) (suc x) (suc u) (omega arith)))
+    ms ks e y z q
 
 places-grow : (steps more : ℕ) → steps ≤ more → (places : ℕ) → Grows (bound_by_places steps places) (bound_by_places more places)
 places-grow steps more l zero above over g ms ks e y z q =
     times-grows (λ x. max (x + 9) (above x)) (λ x. max (x + 9) (over x)) (λ x u p. max-both (x + 9) (above x) (u + 9) (over u) (omega arith) (g x u p)) (λ x. omega arith) steps more y z l q
 places-grow steps more l (suc places) above over g ms ks e y z q =
     first-grows (bound_by_places steps places) (bound_by_places more places) (places-grow steps more l places) places
-        (first_number ms) (first_number ks) (most-first ms ks e) above over g (later_numbers ms) (later_numbers ks) (most-later ms ks e) y z q
+    (first_number ms) (first_number ks) (most-first ms ks e) above over g (later_numbers ms) (later_numbers ks) (most-later ms ks e) y z q
 
 pub bound_grows : BoundGrows
 bound_grows steps more m k y z l e q =
     subst (λ (n : ℕ). bound_by_places steps (length m) (λ x. 0) m y ≤ bound_by_places more n (λ x. 0) k z) (most-length m k e)
-        (places-grow steps more l (length m) (λ x. 0) (λ x. 0) (λ x u p. omega arith) m k e y z q)
+    (places-grow steps more l (length m) (λ x. 0) (λ x. 0) (λ x u p. omega arith) m k e y z q)

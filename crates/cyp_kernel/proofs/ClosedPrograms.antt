@@ -1,21 +1,20 @@
 -- The program of a derivation calls no procedure that isn't there.
-use Rattle.std.proofs.Common.{Bool, List, None, Option, Some, [], ap, arith, cond, false, get_or, length, lt-ltb, ltb-true, map, not, refl, slice_get, slice_index, subst, suc, sym, true, zero, ◌&&◌, ◌+◌, ◌++◌, ◌<◌, ◌∙◌, ◌∷◌, ◌≡◌, ◌≤◌, ℕ, length-append}
+use Rattle.std.proofs.Common.{[], ◌&&◌, ◌+◌, ◌++◌, ◌<◌, Bool, List, None, Option, Some, ap, arith, cond, false, length, length-append, lt-ltb, refl, slice_get, slice_index, suc, true, zero, ℕ, ◌∙◌, ◌∷◌, ◌≡◌, ◌≤◌}
 use Rattle.std.specs.Prelude.{nat_lt}
-use Rattle.std.specs.List.{list_all}
 use Rattle.std.proofs.lemmas.Bool.{and_from, and_parts}
 use Rattle.std.proofs.lemmas.List.Folds.{list_all-append}
+use Rattle.std.specs.List.{list_all}
 use Rattle.cyp_goal.specs.Normal.{Renaming}
-use Rattle.cyp_heap.specs.declared.chunk.Chunk.{Chunk}
 use Rattle.cyp_heap.specs.declared.goal.Link.{Link}
 use Rattle.cyp_heap.specs.declared.goal.Node.{Node}
 use Rattle.cyp_kernel.specs.Companions.{Proof, Proofs, called_count, called_counts, is_called}
 use Rattle.cyp_kernel.specs.Compile.{auxiliary_name, bodies, body, bound_count, head_names, main_name, procedure, procedures, procedures_in, program_of, renamings, tail_renamings, with_new_name, with_proc}
 use Rattle.cyp_kernel.specs.Laws.{ProgramIsClosed}
 use Rattle.cyp_kernel.specs.Naming.{Names, param_names}
-use Rattle.cyp_kernel.specs.Statements.{choose, first_body, guards, in_cell_order, kept_mends, linked_call, matched_call, pre_cell_at, rule_body, stores}
+use Rattle.cyp_kernel.specs.Statements.{choose, first_body, guards, in_cell_order, kept_mends, linked_call, matched_call, rule_body, stores}
 use Rattle.cyp_machine.specs.Closed.{calls_below}
-use Rattle.cyp_prog.specs.Programs.{Body, End, Procedure}
-use Rattle.cyp_step.specs.Changes.{new_int, pre_of}
+use Rattle.cyp_prog.specs.Programs.{Body, Procedure}
+use Rattle.cyp_step.specs.Changes.{pre_of}
 use Rattle.cyp_step.specs.Mends.{writes_for}
 use Rattle.cyp_step.specs.Step.{renamed_premises}
 use Rattle.cyp_step.specs.declared.rule.CallBy.{CallBy}
@@ -48,7 +47,7 @@ module _ (total : ℕ) (some : 0 < total) where
   choose-closed names (g ∷ k ∷ gs) (b ∷ bs) h =
       let parts = and_parts (calls_below total b) (all_closed bs) h in
       and_from (calls_below total b && calls_below total (choose names (k ∷ gs) bs)) true
-          (and_from (calls_below total b) (calls_below total (choose names (k ∷ gs) bs)) parts.0 (choose-closed names (k ∷ gs) bs parts.1)) refl
+      (and_from (calls_below total b) (calls_below total (choose names (k ∷ gs) bs)) parts.0 (choose-closed names (k ∷ gs) bs parts.1)) refl
 
   stores-closed : (n : Node) (names : Names) (ms : List Mend) (b : Body) → calls_below total b ≡ true → calls_below total (stores n names ms b) ≡ true
   stores-closed n names [] b h = h
@@ -64,7 +63,7 @@ module _ (total : ℕ) (some : 0 < total) where
     matched-closed c b l None h = refl
     matched-closed c b l (Some f) h =
         stores-closed n names (in_cell_order (kept_mends (writes_for n.goal f))) _
-            (and_from (nat_lt (slice_index procs c.link) total) (calls_below total b) (index-below procs c.link there) h)
+        (and_from (nat_lt (slice_index procs c.link) total) (calls_below total b) (index-below procs c.link there) h)
 
     linked-closed : (c : CallBy) (b : Body) (l : Option Link) → calls_below total b ≡ true → calls_below total (linked_call n names procs c b l) ≡ true
     linked-closed c b None h = refl
@@ -120,18 +119,18 @@ module _ (total : ℕ) (some : 0 < total) where
         → calls_below total (body false 0 next names m procs d) ≡ true
     body-closed (Derived n r ds) next names m procs fits h =
         called-or (is_called n r ds) _ _
-            (λ e. and_from (nat_lt next total) true (lt-ltb next total (count-one (is_called n r ds) (called_counts ds) next e fits)) refl)
-            (λ e. rule-closed n names procs h (suc m) r _
-                (bodies-closed ds next (with_new_name n r (suc m) names) (renamings (renamed_premises n r)) (bound_count r m) (with_proc r 0 procs)
-                    (count-fits (is_called n r ds) (called_counts ds) next e fits) (proc-below r 0 procs some h)))
+        (λ e. and_from (nat_lt next total) true (lt-ltb next total (count-one (is_called n r ds) (called_counts ds) next e fits)) refl)
+        (λ e. rule-closed n names procs h (suc m) r _
+        (bodies-closed ds next (with_new_name n r (suc m) names) (renamings (renamed_premises n r)) (bound_count r m) (with_proc r 0 procs)
+        (count-fits (is_called n r ds) (called_counts ds) next e fits) (proc-below r 0 procs some h)))
 
     bodies-closed : (ds : Proofs) (next : ℕ) (names : Names) (rs : List Renaming) (m : ℕ) (procs : List ℕ) → next + called_counts ds ≤ total → are_below procs ≡ true
         → all_closed (bodies next names rs m procs ds) ≡ true
     bodies-closed NoMore next names rs m procs fits h = refl
     bodies-closed (More d ds) next names rs m procs fits h =
         and_from (calls_below total (body false 0 next (head_names names rs) m procs d)) (all_closed (bodies (next + called_count d) names (tail_renamings rs) m procs ds))
-            (body-closed d next (head_names names rs) m procs (omega arith) h)
-            (bodies-closed ds (next + called_count d) names (tail_renamings rs) m procs (omega arith) h)
+        (body-closed d next (head_names names rs) m procs (omega arith) h)
+        (bodies-closed ds (next + called_count d) names (tail_renamings rs) m procs (omega arith) h)
 
   -- ---- its procedures
 
@@ -145,8 +144,8 @@ module _ (total : ℕ) (some : 0 < total) where
       → calls_below total (procedure name self procs (Derived n r ds)).body ≡ true
   procedure-closed name self procs n r ds fits h =
       rule-closed n (param_names n) procs h (suc (length n.goal.program)) r _
-          (bodies-closed ds (suc self) (with_new_name n r (suc (length n.goal.program)) (param_names n)) (renamings (renamed_premises n r))
-              (bound_count r (length n.goal.program)) (with_proc r self procs) fits (proc-below r self procs (omega arith) h))
+      (bodies-closed ds (suc self) (with_new_name n r (suc (length n.goal.program)) (param_names n)) (renamings (renamed_premises n r))
+      (bound_count r (length n.goal.program)) (with_proc r self procs) fits (proc-below r self procs (omega arith) h))
 
   either-closed : (t : Bool) (ps qs : List Procedure) → (t ≡ true → are_closed ps ≡ true) → (t ≡ false → are_closed qs ≡ true)
       → are_closed (elim t [ true ↦ ps | false ↦ qs ]) ≡ true
@@ -162,19 +161,19 @@ module _ (total : ℕ) (some : 0 < total) where
         → are_closed (procedures main next procs d) ≡ true
     procedures-closed (Derived n r ds) main next procs fits h =
         either-closed (is_called n r ds) _ _
-            (λ e. let more = count-more (is_called n r ds) (called_counts ds) next e fits in
-                and_from (calls_below total (procedure (auxiliary_name main next) next procs (Derived n r ds)).body) (are_closed (procedures_in main (suc next) (with_proc r next procs) ds))
-                    (procedure-closed (auxiliary_name main next) next procs n r ds more h)
-                    (procedures_in-closed ds main (suc next) (with_proc r next procs) more (proc-below r next procs (omega arith) h)))
-            (λ e. procedures_in-closed ds main next (with_proc r 0 procs) (count-fits (is_called n r ds) (called_counts ds) next e fits) (proc-below r 0 procs some h))
+        (λ e. let more = count-more (is_called n r ds) (called_counts ds) next e fits in
+        and_from (calls_below total (procedure (auxiliary_name main next) next procs (Derived n r ds)).body) (are_closed (procedures_in main (suc next) (with_proc r next procs) ds))
+        (procedure-closed (auxiliary_name main next) next procs n r ds more h)
+        (procedures_in-closed ds main (suc next) (with_proc r next procs) more (proc-below r next procs (omega arith) h)))
+        (λ e. procedures_in-closed ds main next (with_proc r 0 procs) (count-fits (is_called n r ds) (called_counts ds) next e fits) (proc-below r 0 procs some h))
 
     procedures_in-closed : (ds : Proofs) (main : List ℕ) (next : ℕ) (procs : List ℕ) → next + called_counts ds ≤ total → are_below procs ≡ true
         → are_closed (procedures_in main next procs ds) ≡ true
     procedures_in-closed NoMore main next procs fits h = refl
     procedures_in-closed (More d ds) main next procs fits h =
         closed-append (procedures main next procs d) (procedures_in main (next + called_count d) procs ds)
-            (procedures-closed d main next procs (omega arith) h)
-            (procedures_in-closed ds main (next + called_count d) procs (omega arith) h)
+        (procedures-closed d main next procs (omega arith) h)
+        (procedures_in-closed ds main (next + called_count d) procs (omega arith) h)
 
 -- ---- there are as many procedures as called companions, and the main one
 
@@ -186,7 +185,7 @@ mutual
   length-procedures : (d : Proof) (main : List ℕ) (next : ℕ) (procs : List ℕ) → length (procedures main next procs d) ≡ called_count d
   length-procedures (Derived n r ds) main next procs =
       either-length (is_called n r ds) _ _ (called_counts ds) (ap suc (length-procedures_in ds main (suc next) (with_proc r next procs)))
-          (length-procedures_in ds main next (with_proc r 0 procs))
+      (length-procedures_in ds main next (with_proc r 0 procs))
 
   length-procedures_in : (ds : Proofs) (main : List ℕ) (next : ℕ) (procs : List ℕ) → length (procedures_in main next procs ds) ≡ called_counts ds
   length-procedures_in NoMore main next procs = refl
@@ -200,4 +199,4 @@ program_closed name (Derived n r ds) =
     let total : ℕ = length (program_of name (Derived n r ds)) in
     let counted = length-procedures_in ds (main_name name) 1 (with_proc r 0 []) in
     and_from _ _ (procedure-closed total (omega arith) (main_name name) 0 [] n r ds (omega arith) refl)
-        (procedures_in-closed total (omega arith) ds (main_name name) 1 (with_proc r 0 []) (omega arith) (proc-below total (omega arith) r 0 [] (omega arith) refl))
+    (procedures_in-closed total (omega arith) ds (main_name name) 1 (with_proc r 0 []) (omega arith) (proc-below total (omega arith) r 0 [] (omega arith) refl))

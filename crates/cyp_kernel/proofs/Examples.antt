@@ -1,17 +1,17 @@
 -- Bounds, measures and small derivations.
-use Rattle.std.proofs.Common.{ℤ, map, subst, suc, zero, zero-le, None, Some, [], ◌++◌, ◌∷◌, ◌≡◌, pos, refl, replicate, List, ℕ}
+use Rattle.std.proofs.Common.{[], ◌++◌, List, None, Some, map, pos, refl, replicate, subst, suc, zero, zero-le, ℕ, ℤ, ◌∷◌, ◌≡◌}
 use Rattle.cyp_heap.specs.Assertions.{SideHolds}
 use Rattle.cyp_heap.specs.Stores.{Store}
 use Rattle.cyp_heap.specs.declared.goal.Goal.{Goal}
 use Rattle.cyp_heap.specs.declared.goal.Node.{Node}
 use Rattle.cyp_kernel.specs.Accepted.{IsAccepted, lead_of}
-use Rattle.cyp_kernel.specs.Bound.{body_length, bound, longest, measure, step_bound}
+use Rattle.cyp_kernel.specs.Bound.{body_length, bound, longest, measure}
 use Rattle.cyp_kernel.specs.Companions.{Proof}
 use Rattle.cyp_kernel.specs.Compile.{program_of}
 use Rattle.cyp_kernel.specs.Correct.{AgreeBy, IsCorrect, RunsRight, kept_params}
 use Rattle.cyp_machine.specs.Runs.{Run}
 use Rattle.cyp_machine.specs.States.{State, start}
-use Rattle.cyp_prog.specs.Programs.{Body, Choosing, End, Failing, Giving, Invoking, Loading, Procedure, Then}
+use Rattle.cyp_prog.specs.Programs.{Body, Choosing, End, Failing, Giving, Invoking, Loading, Then}
 use Rattle.cyp_prog.specs.declared.stmt.Expr.{Expr}
 use Rattle.cyp_prog.specs.declared.stmt.TestSign.TheVariants.{Equal}
 use Rattle.cyp_step.specs.declared.rule.Rule.TheVariants.{ByEmp, ByOpen}
@@ -44,7 +44,7 @@ nought = record { var = None; offset = pos 0 }
 abbrev disposing : Body
 disposing =
     Then (Choosing (record { left = var 1; sign = Equal; right = nought }) End
-        (Then (Loading 2 (var 1)) (Then (Giving (var 1)) (Then (Invoking 0 (var 2 ∷ [])) End))))
+    (Then (Loading 2 (var 1)) (Then (Giving (var 1)) (Then (Invoking 0 (var 2 ∷ [])) End))))
     End
 
 four_statements : body_length disposing ≡ 4

@@ -1,5 +1,5 @@
 -- A call at a lower measure is within the greatest that the bound's equation takes.
-use Rattle.std.proofs.Common.{[], List, arith, inl, inr, length, max, refl, replicate, suc, zero, subst, ◌+◌, ◌<◌, ◌∷◌, ◌≡◌, ◌≤◌, ℕ, sym}
+use Rattle.std.proofs.Common.{[], ◌<◌, List, arith, inl, inr, length, replicate, subst, suc, sym, zero, ℕ, ◌∷◌, ◌≤◌}
 use Rattle.cyp_kernel.proofs.BoundGrowth.{bound_grows}
 use Rattle.cyp_kernel.specs.Bound.{bound}
 use Rattle.cyp_kernel.specs.Laws.{AtMostEach, IsLower, LowerIsBelow, greatest_below}

@@ -1,5 +1,5 @@
 -- Derivations whose every place is a step.
-use Rattle.std.specs.Prelude.{None, Option, Some, [], List, ℕ, ◌∷◌, ◌≡◌}
+use Rattle.std.specs.Prelude.{[], List, None, Option, Some, ℕ, ◌∷◌, ◌≡◌}
 use Rattle.cyp_heap.specs.declared.goal.Node.{Node}
 use Rattle.cyp_kernel.specs.Companions.{Proof, Proofs}
 use Rattle.cyp_step.specs.Step.{premises}

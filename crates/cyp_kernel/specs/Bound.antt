@@ -1,5 +1,5 @@
 -- How many steps a run may take: the measure of the numbers of a precondition's instances, and the bound on steps at a measure.
-use Rattle.std.specs.Prelude.{None, Option, Some, [], ◌+◌, List, length, max, replicate, slice_get, suc, zero, ℕ, ◌∷◌}
+use Rattle.std.specs.Prelude.{[], ◌+◌, List, None, Option, Some, length, max, replicate, slice_get, suc, zero, ℕ, ◌∷◌}
 use Rattle.cyp_heap.specs.Chunks.{without}
 use Rattle.cyp_measure.specs.Levels.{levels}
 use Rattle.cyp_prog.specs.Programs.{Body, Choosing, End, Failing, Giving, Invoking, Loading, Procedure, Statement, Storing, Taking, Then}

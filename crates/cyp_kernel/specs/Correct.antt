@@ -1,5 +1,5 @@
 -- A program does what its specification says.
-use Rattle.std.specs.Prelude.{None, Option, Some, [], IsTrue, List, false, map, suc, ℕ, ◌≡◌, ◌≤◌}
+use Rattle.std.specs.Prelude.{[], IsTrue, List, None, Option, Some, false, map, suc, ℕ, ◌≡◌, ◌≤◌}
 use Rattle.std.specs.List.{list_any}
 use Rattle.cyp_goal.specs.Normal.{Renaming, normal}
 use Rattle.cyp_heap.specs.Assertions.{SideHolds}

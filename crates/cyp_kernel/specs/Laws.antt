@@ -1,5 +1,5 @@
 -- Laws of the bound on steps and of the programs of derivations.
-use Rattle.std.specs.Prelude.{[], ◌+◌, ◌<◌, ◌⊎◌, List, length, max, replicate, suc, zero, ℕ, ◌∷◌, ◌≡◌, ◌≤◌}
+use Rattle.std.specs.Prelude.{[], ◌+◌, ◌<◌, List, length, max, replicate, suc, zero, ℕ, ◌∷◌, ◌≡◌, ◌≤◌, ◌⊎◌}
 use Rattle.cyp_kernel.specs.Bound.{bound, times}
 use Rattle.cyp_kernel.specs.Companions.{Proof}
 use Rattle.cyp_kernel.specs.Compile.{program_of}

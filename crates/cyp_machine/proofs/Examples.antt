@@ -1,9 +1,8 @@
 -- Steps and faults of small programs.
-use Rattle.std.proofs.Common.{List, None, Option, Some, [], ap, false, int_cmp, is_some, pos, refl, true, ◌&&◌, ◌∙◌, ◌∷◌, ◌≡◌, ℤ}
-use Rattle.std.specs.FinMap.{empty, get, get-empty, get-insert, insert}
+use Rattle.std.proofs.Common.{[], ◌&&◌, List, None, Option, Some, ap, false, int_cmp, is_some, pos, refl, true, ℤ, ◌∙◌, ◌∷◌, ◌≡◌}
 use Rattle.std.proofs.lemmas.Cmp.{int_cmp_total}
+use Rattle.std.specs.FinMap.{empty, get, get-empty, get-insert, insert}
 use Rattle.cyp_heap.specs.Stores.{Store, no_store}
-use Rattle.cyp_machine.proofs.Options.{some_there}
 use Rattle.cyp_machine.specs.Faults.{fault, is_whole, unless_there}
 use Rattle.cyp_machine.specs.Runs.{Run}
 use Rattle.cyp_machine.specs.States.{State, has_ended, start}

@@ -1,10 +1,10 @@
 -- Some base is free, and so there is a least one.
-use Rattle.std.proofs.Common.{Bool, List, None, Some, [], arith, cond, false, int_cmp, int_eq, is_none, length, max, nat_abs, negsuc, pos, refl, replicate, suc, sym, true, zero, ◌&&◌, ◌+◌, ◌+ℤ◌, ◌<ℤ◌, ◌∙◌, ◌∷◌, ◌≡◌, ◌≤ℤ◌, ◌≤◌, ℕ, ℤ, ap, Option}
-use Rattle.std.specs.FinMap.{FinMap, entries, find, get, get-entries}
-use Rattle.std.specs.List.{list_all}
+use Rattle.std.proofs.Common.{[], ◌&&◌, ◌+◌, ◌+ℤ◌, ◌<ℤ◌, Bool, List, None, Option, Some, ap, arith, cond, false, int_cmp, int_eq, is_none, max, nat_abs, negsuc, pos, refl, replicate, suc, sym, true, zero, ℕ, ℤ, ◌∙◌, ◌∷◌, ◌≡◌, ◌≤◌, ◌≤ℤ◌}
 use Rattle.std.proofs.lemmas.Bool.{and_from, and_parts, false≢true}
 use Rattle.std.proofs.lemmas.Bool.Decides.{Decides-int_eq}
 use Rattle.std.proofs.lemmas.Int.{ints}
+use Rattle.std.specs.FinMap.{FinMap, entries, find, get, get-entries}
+use Rattle.std.specs.List.{list_all}
 use Rattle.cyp_heap.specs.Stores.{Store}
 use Rattle.cyp_machine.specs.Steps.{IsFree, addresses, has_none}
 
@@ -77,10 +77,12 @@ some_free : (h : Store) (n : ℕ) → (j : ℕ) × (is_free h n j ≡ true)
 some_free h n =
     let cells : ℕ = greatest_key (entries h.cells) in
     let blocks : ℕ = greatest_key (entries h.blocks) in
-    let j : ℕ = cells + blocks in
-    (j, and_from (has_none h.cells (addresses (pos (suc j)) n)) (is_none (get h.blocks (pos (suc j))))
-        (no_cells h.cells j n (pos (suc j)) (omega arith) (omega (arith, ints)))
-        (ap is_none (get_none h.blocks j (pos (suc j)) (omega arith) (omega (arith, ints)))))
+    let j : ℕ = cells + blocks in (
+      j,
+      and_from (has_none h.cells (addresses (pos (suc j)) n)) (is_none (get h.blocks (pos (suc j))))
+          (no_cells h.cells j n (pos (suc j)) (omega arith) (omega (arith, ints)))
+          (ap is_none (get_none h.blocks j (pos (suc j)) (omega arith) (omega (arith, ints)))),
+    )
 
 below_free : (h : Store) (n j : ℕ) (z : ℤ) → IsLeast (is_free h n) j → IsFree h z n → pos (suc j) ≤ℤ z
 below_free h n j (pos zero) l f = let p : pos 0 <ℤ pos 0 = f.0 in absurd (omega (arith, ints))

@@ -1,20 +1,20 @@
 -- A state of a run that has neither ended nor a fault has a next step.
-use Rattle.std.proofs.Common.{arith, inl, inr, ltb-true, ◌<◌, ◌≤◌, Bool, List, None, Option, Some, [], ap, cond, false, is_some, length, map, pos, refl, replicate, slice_get, subst, suc, sym, true, zero, ◌&&◌, ◌∙◌, ◌∷◌, ◌≡◌, ℕ, ℤ}
+use Rattle.std.proofs.Common.{[], ◌<◌, Bool, List, None, Option, Some, arith, cond, false, inl, inr, is_some, length, ltb-true, map, pos, refl, replicate, slice_get, subst, suc, sym, true, zero, ℕ, ℤ, ◌∷◌, ◌≡◌, ◌≤◌}
 use Rattle.std.specs.Prelude.{nat_lt}
-use Rattle.std.specs.FinMap.{get, insert, remove}
-use Rattle.std.specs.List.{list_all}
 use Rattle.std.proofs.lemmas.Bool.{and_from, and_parts, false≢true}
 use Rattle.std.proofs.lemmas.List.{length-replicate}
 use Rattle.std.proofs.lemmas.Option.{slice_get_cases}
+use Rattle.std.specs.FinMap.{get}
+use Rattle.std.specs.List.{list_all}
 use Rattle.cyp_heap.specs.Stores.{Store}
 use Rattle.cyp_machine.proofs.FreeBases.{least_free, zeros_zero}
 use Rattle.cyp_machine.proofs.Options.{there, value_of}
 use Rattle.cyp_machine.specs.Closed.{IsClosed, calls_below, statement_calls_below}
-use Rattle.cyp_machine.specs.Faults.{body_fault, fault, frames_fault, is_whole, statement_fault}
+use Rattle.cyp_machine.specs.Faults.{body_fault, frames_fault, is_whole, statement_fault}
 use Rattle.cyp_machine.specs.Laws.{LeastIsAStep, RunGoesOn}
 use Rattle.cyp_machine.specs.Runs.{Run}
-use Rattle.cyp_machine.specs.States.{Frame, State, entry_body, frames_ended, has_ended, start}
-use Rattle.cyp_machine.specs.Steps.{Becomes, BodyStep, FramesStep, StatementStep, Step, StepBy, addresses, any_pick, followed_by, has_all, insert_all, least_pick, remove_all}
+use Rattle.cyp_machine.specs.States.{Frame, State, entry_body, frames_ended, start}
+use Rattle.cyp_machine.specs.Steps.{Becomes, BodyStep, FramesStep, StatementStep, addresses, any_pick, followed_by, has_all, least_pick}
 use Rattle.cyp_machine.specs.Values.{Values, expr_value, params_from, test_value}
 use Rattle.cyp_machine.specs.declared.cause.Cause.TheVariants.{FreeMissing, ReadMissing, WriteMissing}
 use Rattle.cyp_prog.specs.Programs.{Body, Choosing, End, Failing, Giving, Invoking, Loading, Procedure, Statement, Storing, Taking, Then}
@@ -139,7 +139,7 @@ module _ (ps : List Procedure) where
   frames_go [] h r e f = absurd r
   frames_go (g ∷ fs) h r e f = body_goes g.rest h g.values fs (and_parts (calls_below (length ps) g.rest) (are_ready (length ps) fs) r).0 e f
 
--- ---- the least allocation is one that may be taken
+  -- ---- the least allocation is one that may be taken
 
   statement_least : (s : Statement) (h : Store) (vs : Values) (rest : Body) (below : List Frame) (t : State)
       → StatementStep least_pick ps s h vs rest below t → StatementStep any_pick ps s h vs rest below t

@@ -1,7 +1,7 @@
 -- A state that has ended, or whose next step faults, has no next step.
-use Rattle.std.proofs.Common.{Bool, false, IsSome, IsTrue, List, None, Option, Some, [], ap, inl, inr, is_some, refl, sym, true, ◌∙◌, ◌∷◌, ◌≡◌, ◌⊎◌, ℕ, ℤ}
-use Rattle.std.specs.FinMap.{get}
+use Rattle.std.proofs.Common.{[], Bool, IsSome, List, None, Option, Some, ap, false, inl, inr, is_some, refl, sym, true, ℕ, ℤ, ◌∙◌, ◌∷◌, ◌≡◌}
 use Rattle.std.proofs.lemmas.Bool.{false≢true}
+use Rattle.std.specs.FinMap.{get}
 use Rattle.cyp_heap.specs.Stores.{Store}
 use Rattle.cyp_machine.proofs.Options.{some_there}
 use Rattle.cyp_machine.specs.Faults.{body_fault, frames_fault, is_whole, statement_fault, unless_there}

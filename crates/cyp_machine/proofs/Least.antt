@@ -1,14 +1,14 @@
 -- With the least allocation a state has one next step at most.
-use Rattle.std.proofs.Common.{map, replicate, slice_get, true, IsTrue, List, None, Some, [], ap, arith, int_eq, length, pos, refl, suc, sym, zero, ◌&&◌, ◌∙◌, ◌∷◌, ◌≡◌, ◌≤ℤ◌, ℕ, ℤ, Option}
-use Rattle.std.specs.FinMap.{get, insert, remove}
-use Rattle.std.specs.List.{list_all}
+use Rattle.std.proofs.Common.{[], List, Option, Some, ap, arith, int_eq, length, map, pos, refl, replicate, slice_get, sym, true, ℕ, ℤ, ◌∙◌, ◌∷◌, ◌≡◌, ◌≤ℤ◌}
 use Rattle.std.proofs.lemmas.Bool.{and_parts}
 use Rattle.std.proofs.lemmas.Bool.Decides.{Decides-int_eq}
 use Rattle.std.proofs.lemmas.Int.{ints}
+use Rattle.std.specs.FinMap.{get, insert, remove}
+use Rattle.std.specs.List.{list_all}
 use Rattle.cyp_heap.specs.Stores.{Store}
 use Rattle.cyp_machine.specs.Laws.{LeastIsOne}
 use Rattle.cyp_machine.specs.States.{Frame, State}
-use Rattle.cyp_machine.specs.Steps.{BodyStep, FramesStep, IsFree, StatementStep, addresses, insert_all, least_pick, remove_all}
+use Rattle.cyp_machine.specs.Steps.{BodyStep, FramesStep, StatementStep, addresses, insert_all, least_pick, remove_all}
 use Rattle.cyp_machine.specs.Values.{Values, expr_value, params_from}
 use Rattle.cyp_prog.specs.Programs.{Body, Choosing, End, Failing, Giving, Invoking, Loading, Procedure, Statement, Storing, Taking, Then}
 
@@ -44,9 +44,9 @@ module _ (ps : List Procedure) where
       let content : p.1 ≡ q.1 = same_zeros n p.1 q.1 p.2 q.2 p.4.1 q.4.1 in
       p.5
       ∙ (λ i. record {
-          store = record { cells = insert_all h.cells (base i) (content i); blocks = insert h.blocks (base i) n };
-          frames = record { values = (v, base i) ∷ vs; rest = rest } ∷ below;
-        })
+        store = record { cells = insert_all h.cells (base i) (content i); blocks = insert h.blocks (base i) n };
+        frames = record { values = (v, base i) ∷ vs; rest = rest } ∷ below;
+      })
       ∙ sym q.5
   statement_one (Giving e) h vs rest below t u p q =
       same_made (λ (n : ℕ). record {

@@ -1,5 +1,5 @@
 -- Options that are something, and faults for want of something.
-use Rattle.std.proofs.Common.{Bool, None, Option, Some, cond, false, is_some, refl, true, ◌&&◌, ◌≡◌}
+use Rattle.std.proofs.Common.{Bool, None, Option, Some, false, is_some, refl, true, ◌≡◌}
 use Rattle.std.proofs.lemmas.Bool.{false≢true}
 use Rattle.cyp_machine.specs.Faults.{unless_there}
 use Rattle.cyp_machine.specs.declared.cause.Cause.{Cause}

@@ -1,5 +1,5 @@
 -- When the next step of a run is a fault.
-use Rattle.std.specs.Prelude.{[], Bool, List, None, Option, Some, cond, false, get_or, is_some, ℕ, ℤ, ◌∷◌}
+use Rattle.std.specs.Prelude.{[], Bool, List, None, Option, Some, cond, false, is_some, ℕ, ℤ, ◌∷◌}
 use Rattle.std.specs.FinMap.{get}
 use Rattle.cyp_heap.specs.Stores.{Store}
 use Rattle.cyp_machine.specs.States.{Frame, State}

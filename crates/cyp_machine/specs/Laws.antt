@@ -1,5 +1,5 @@
 -- Laws of runs.
-use Rattle.std.specs.Prelude.{◌≡◌, ◌⊎◌, IsSome, IsTrue, List, None, false, ℕ, ℤ}
+use Rattle.std.specs.Prelude.{IsSome, IsTrue, List, None, false, ℕ, ℤ, ◌≡◌, ◌⊎◌}
 use Rattle.cyp_heap.specs.Stores.{Store}
 use Rattle.cyp_machine.specs.Closed.{IsClosed}
 use Rattle.cyp_machine.specs.Faults.{fault}

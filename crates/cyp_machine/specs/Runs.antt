@@ -1,5 +1,5 @@
 -- Runs of programs.
-use Rattle.std.specs.Prelude.{◌≡◌, List, suc, zero, ℕ}
+use Rattle.std.specs.Prelude.{List, suc, zero, ℕ, ◌≡◌}
 use Rattle.cyp_machine.specs.States.{State}
 use Rattle.cyp_machine.specs.Steps.{Picks, StepBy, any_pick}
 use Rattle.cyp_prog.specs.Programs.{Procedure}

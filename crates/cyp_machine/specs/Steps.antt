@@ -1,5 +1,5 @@
 -- One step of a program: a relation between states.
-use Rattle.std.specs.Prelude.{[], ◌+ℤ◌, ◌<ℤ◌, ◌≡◌, ◌≤ℤ◌, Bool, IsTrue, List, None, Some, cond, is_none, is_some, length, map, pos, slice_get, suc, zero, ℕ, ℤ, ◌∷◌}
+use Rattle.std.specs.Prelude.{[], ◌+ℤ◌, ◌<ℤ◌, Bool, IsTrue, List, None, Some, cond, is_none, is_some, length, map, pos, slice_get, suc, zero, ℕ, ℤ, ◌∷◌, ◌≡◌, ◌≤ℤ◌}
 use Rattle.std.specs.FinMap.{FinMap, get, insert, remove}
 use Rattle.std.specs.List.{list_all}
 use Rattle.std.specs.Ordering.{int_cmp, int_eq}

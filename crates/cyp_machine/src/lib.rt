@@ -5,6 +5,4 @@ mod cause;
 mod laws;
 
 pub use cause::Cause;
-pub use laws::{
-    halted_state_has_no_step, least_allocation_makes_one_step, run_goes_on_or_halts,
-};
+pub use laws::{halted_state_has_no_step, least_allocation_makes_one_step, run_goes_on_or_halts};

@@ -1,5 +1,5 @@
 -- Measures of small lists.
-use Rattle.std.proofs.Common.{[], ◌++◌, ◌∷◌, ◌≡◌, refl, replicate}
+use Rattle.std.proofs.Common.{[], ◌++◌, refl, replicate, ◌∷◌, ◌≡◌}
 use Rattle.cyp_measure.specs.Levels.{levels}
 
 one_tuple : levels ((3 ∷ []) ∷ []) ≡ 0 ∷ 3 ∷ replicate 15 0 ++ 1 ∷ replicate 50 0
