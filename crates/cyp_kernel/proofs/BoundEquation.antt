@@ -11,7 +11,7 @@ max_assoc : (a b c : ℕ) → max (max a b) c ≡ max a (max b c)
 max_assoc a b c = omega arith
 
 -- the function may be changed where it gives the same
-times-same : (g f : ℕ → ℕ) → ((z : ℕ) → g z ≡ f z) → (k y : ℕ) → times k g y ≡ times k f y
+pub times-same : (g f : ℕ → ℕ) → ((z : ℕ) → g z ≡ f z) → (k y : ℕ) → times k g y ≡ times k f y
 times-same g f same k y = λ i. times k (λ z. same z i) y
 
 -- one step of a body at the numbers from some place on, with what the places before need

@@ -1,3 +1,4 @@
+pub mod BoundAlone
 pub mod BoundEquation
 pub mod BoundGrowth
 pub mod ClosedPrograms

@@ -15,6 +15,12 @@ greatest_below w (suc a ∷ ms) z = max (w (a ∷ replicate (length ms) z) (suc 
 abbrev pub BoundLaw : Type 0
 BoundLaw = (steps : ℕ) (m : List ℕ) (y : ℕ) → bound steps m y ≡ times steps (λ z. max (z + 9) (greatest_below (bound steps) m z)) y
 
+-- the bound is the only function for which that holds
+abbrev pub BoundIsOnly : Type 0
+BoundIsOnly = (w : ℕ → List ℕ → ℕ → ℕ)
+    → ((steps : ℕ) (m : List ℕ) (y : ℕ) → w steps m y ≡ times steps (λ z. max (z + 9) (greatest_below (w steps) m z)) y)
+    → (steps : ℕ) (m : List ℕ) (y : ℕ) → w steps m y ≡ bound steps m y
+
 -- the measures have as many places, and each number of the first is at most that of the second
 abbrev pub AtMostEach : List ℕ → List ℕ → Type 0
 AtMostEach [] [] = Unit {0}

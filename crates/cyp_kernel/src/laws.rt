@@ -1,9 +1,10 @@
-ghost use Rattle.cyp_kernel.specs.Laws.{BoundGrows, BoundIsAbove, BoundLaw, LowerIsBelow, ProgramIsClosed};
+ghost use Rattle.cyp_kernel.specs.Laws.{BoundGrows, BoundIsAbove, BoundIsOnly, BoundLaw, LowerIsBelow, ProgramIsClosed};
 
 /// Law: the bound of a body's steps at a measure is, as often as the body has steps, nine more or the
-/// greatest bound at a smaller measure.
+/// greatest bound at a smaller measure. No other function is.
 pub fn bound_in_one_line()
-    ensures { BoundLaw }
+    ensures holds { BoundLaw }
+    ensures alone { BoundIsOnly }
 {}
 
 /// Law: the bound grows with the number of steps, with each number of the measure and with the number
