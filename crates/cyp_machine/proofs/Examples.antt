@@ -1,6 +1,7 @@
 -- Steps and faults of small programs.
 use Rattle.std.proofs.Common.{[], ◌&&◌, List, None, Option, Some, ap, false, int_cmp, is_some, pos, refl, true, ℤ, ◌∙◌, ◌∷◌, ◌≡◌}
 use Rattle.std.proofs.lemmas.Cmp.{int_cmp_total}
+use Rattle.std.proofs.lemmas.Option.{none-some}
 use Rattle.std.specs.FinMap.{empty, get, get-empty, get-insert, insert}
 use Rattle.cyp_heap.specs.Stores.{Store, no_store}
 use Rattle.cyp_machine.specs.Faults.{fault, is_whole, unless_there}
@@ -97,3 +98,17 @@ not_ended = refl
 
 ended : has_ended returned ≡ true
 ended = refl
+
+-- ---- a call of a procedure that isn't there has neither a next step nor a fault
+
+abbrev lost : State
+lost = begun (Then (Invoking 7 []) End) (pos 4) no_store
+
+lost_goes_on : has_ended lost ≡ false
+lost_goes_on = refl
+
+lost_no_fault : fault lost ≡ None
+lost_no_fault = refl
+
+lost_no_step : (t : State) → Step (procedure (Then (Invoking 7 []) End) ∷ []) lost t → ⊥
+lost_no_step t st = none-some st.0 st.1

@@ -9,11 +9,11 @@ use Rattle.cyp_machine.specs.declared.cause.Cause.{Cause}
 use Rattle.cyp_machine.specs.declared.cause.Cause.TheVariants.{ErrorReached, FreeMissing, ReadMissing, WriteMissing}
 use Rattle.cyp_prog.specs.Programs.{Body, Choosing, End, Failing, Giving, Invoking, Loading, Statement, Storing, Taking, Then}
 
--- the cause, unless all that is needed is there
+-- the cause, unless what is needed is there
 abbrev pub unless_there : Bool → Cause → Option Cause
-unless_there there c = cond there None (Some c)
+unless_there b c = cond b None (Some c)
 
--- the block at the base has this size, and its cells are all there
+-- there is a block of this size, and each of its cells from the base on is there
 abbrev pub is_whole : Store → ℤ → Option ℕ → Bool
 is_whole h a None = false
 is_whole h a (Some n) = has_all h.cells (addresses a n)
