@@ -5,3 +5,4 @@ pub mod NotLaws
 pub mod ArgLaws
 pub mod ChunkLaws
 pub mod ItemLaws
+pub mod BodyLaws

@@ -4,3 +4,4 @@ pub mod TermReaders
 pub mod LitReaders
 pub mod ChunkReaders
 pub mod BodyReaders
+pub mod TextReaders
