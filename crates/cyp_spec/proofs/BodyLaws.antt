@@ -1,11 +1,11 @@
 -- Bodies are read as they are spelled.
-use Rattle.std.proofs.Common.{◌≡◌, ℕ, Bool, List, [], ◌∷◌, ◌⊎◌, inl, inr, refl}
+use Rattle.std.proofs.Common.{◌≡◌, ℕ, List, inl, inr, refl}
 use Rattle.cyp_lex.specs.declared.token.Sign.TheVariants.{LeftBrace, LeftBracket, LeftParen, PointsTo, RightBrace}
 use Rattle.cyp_lex.specs.declared.token.Word.TheVariants.{Emp}
-use Rattle.cyp_grammar.specs.Lexemes.{Name, Reserved, Said, Symbol}
+use Rattle.cyp_grammar.specs.Lexemes.{Name, Reserved, Symbol}
 use Rattle.cyp_grammar.specs.Spelling.{Mark}
 use Rattle.cyp_grammar.specs.Readers.{both, is_sign}
-use Rattle.cyp_grammar.proofs.Readings.{Apart, Reads, apart_none, none, nowhere, within_self}
+use Rattle.cyp_grammar.proofs.Readings.{Apart, Reads, apart_none, none, within_self}
 use Rattle.cyp_grammar.proofs.Singles.{one}
 use Rattle.cyp_grammar.proofs.Sequences.{both_reads, spell_both}
 use Rattle.cyp_grammar.proofs.Mapped.{mapped_reads}
@@ -14,7 +14,7 @@ use Rattle.cyp_grammar.proofs.Tellers.{sign_mark, sign_reads}
 use Rattle.cyp_grammar.proofs.Firsts.{NameBegins, name_right}
 use Rattle.cyp_grammar.proofs.Seconds.{ApartButNames, second_reads}
 use Rattle.cyp_grammar.proofs.Behinds.{NameLeads, leads_both}
-use Rattle.cyp_spec.specs.Trees.{BodyTree, ChunkTree, ItemTree, Items, NoItems, PureTree}
+use Rattle.cyp_spec.specs.Trees.{BodyTree, ChunkTree, Items, NoItems, PureTree}
 use Rattle.cyp_spec.specs.Grammar.{body_spelling, heap_spelling, in_braces}
 use Rattle.cyp_spec.specs.ChunkReaders.{begins_heap, heap_at, is_chunk_tail}
 use Rattle.cyp_spec.specs.BodyReaders.{AnyBody, SomeItems, begins_body, begins_item, body_at, body_tree, items_at}

@@ -6,3 +6,4 @@ pub mod ArgLaws
 pub mod ChunkLaws
 pub mod ItemLaws
 pub mod BodyLaws
+pub mod TextLaws
