@@ -1,2 +1,10 @@
 pub mod Trees
 pub mod Grammar
+pub mod GrammarFaults
+pub mod Uses
+pub mod Bodies
+pub mod Kept
+pub mod NameFaults
+pub mod Specifications
+pub mod LimitFaults
+pub mod Reading
