@@ -8,3 +8,5 @@ pub mod NameFaults
 pub mod Specifications
 pub mod LimitFaults
 pub mod Reading
+pub mod PrintedTrees
+pub mod Printing
