@@ -10,3 +10,4 @@ pub mod LimitFaults
 pub mod Reading
 pub mod PrintedTrees
 pub mod Printing
+pub mod ReadingLaws
