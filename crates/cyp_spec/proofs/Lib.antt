@@ -3,3 +3,5 @@ pub mod Exists
 pub mod Parser
 pub mod ExampleForms
 pub mod ExamplesRead
+pub mod ExamplesRefused
+pub mod ExamplesPrinted
