@@ -5,3 +5,4 @@ pub mod ExampleForms
 pub mod ExamplesRead
 pub mod ExamplesRefused
 pub mod ExamplesPrinted
+pub mod ExamplesGrammar
