@@ -11,7 +11,6 @@ use Rattle.cyp_lex.specs.Lexing.{tokens_of}
 use Rattle.cyp_lex.specs.declared.fault.Fault.{Fault}
 use Rattle.cyp_lex.specs.declared.fault.FaultKind.{FaultKind}
 use Rattle.cyp_lex.specs.declared.token.Token.{Token}
-use Rattle.cyp_term.specs.declared.lit.Lit.{Lit}
 use Rattle.cyp_term.specs.declared.lit.Lit.TheVariants.{Eq, Ne, Same}
 use Rattle.cyp_term.specs.declared.lit.SetTerm.{SetTerm}
 use Rattle.cyp_term.specs.declared.term.Sort.TheVariants.{Card, Int, Set}

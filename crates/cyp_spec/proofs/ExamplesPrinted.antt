@@ -7,11 +7,11 @@ use Rattle.cyp_lex.specs.Lexing.{lexed, name_kind, piece_at, sign_at, stands}
 use Rattle.cyp_term.specs.Entailment.{arrangement_fits, arrangements, class_literals, satisfiable}
 use Rattle.cyp_term.specs.Integers.{all_cases, both, eliminate, eliminate_all, feasible, ints_fit, joined}
 use Rattle.cyp_term.specs.Regions.{all_set_vars, all_terms, regions_fit}
-use Rattle.cyp_term.specs.declared.lit.Lit.TheVariants.{Eq, Le, NotMember, NotSub, Same}
+use Rattle.cyp_term.specs.declared.lit.Lit.TheVariants.{Eq, Le, NotMember, NotSub}
 use Rattle.cyp_spec.specs.Printing.{specification_text}
 use Rattle.cyp_spec.specs.Reading.{IsReading}
 use Rattle.cyp_spec.specs.Specifications.{Specification}
-use Rattle.cyp_spec.proofs.ExampleForms.{S, X, block, cell, goal, inst, k, no_preds, num, plus, s, sll_preds, tree_of, x}
+use Rattle.cyp_spec.proofs.ExampleForms.{S, X, cell, goal, inst, k, no_preds, num, plus, s, sll_preds, tree_of, x}
 
 abbrev write : Specification
 write = record { preds = no_preds; name = codes "f"; goal = goal (x 0 ∷ []) [] (cell (X 0) (X 1) ∷ []) (cell (X 0) (num 5) ∷ []) }

@@ -1,7 +1,7 @@
 -- Worked examples of texts that are refused for their tokens, names, sorts or limits.
-use Rattle.std.specs.Prelude.{Err, List, Ok, [], codes, ℕ, ◌++◌, ◌∷◌, ◌≡◌}
+use Rattle.std.specs.Prelude.{List, codes, ℕ}
 use Rattle.std.proofs.Common.{refl, inl}
-use Rattle.cyp_lex.specs.Lexing.{lexed, name_kind, piece_at, sign_at, stands, tokens_of}
+use Rattle.cyp_lex.specs.Lexing.{lexed, name_kind, piece_at, sign_at, stands}
 use Rattle.cyp_lex.specs.declared.fault.FaultKind.TheVariants.{BadByte, DuplicateName, GuardsOverlap, NumberRange, TooLarge, UnboundVariable, UnknownPredicate, Unproductive, WrongArity, WrongSort}
 use Rattle.cyp_term.specs.Entailment.{arrangement_fits, arrangements, class_literals, satisfiable}
 use Rattle.cyp_term.specs.Integers.{all_cases, both, eliminate, eliminate_all, feasible, ints_fit, joined}

@@ -1,8 +1,13 @@
+pub mod Parted
+pub mod Fronts
+pub mod OneFault
 pub mod Unique
+pub mod NamesAllowed
+pub mod Spoils
 pub mod Exists
 pub mod Parser
 pub mod ExampleForms
 pub mod ExamplesRead
 pub mod ExamplesRefused
-pub mod ExamplesPrinted
 pub mod ExamplesGrammar
+pub mod ExamplesPrinted

@@ -1,5 +1,5 @@
 -- The literals and chunks of a body, and their names in the order of the text and in the order in which they are kept.
-use Rattle.std.specs.Prelude.{[], Bool, List, cond, false, filter, flat_map, map, not, true, ℕ, ◌++◌, ◌∷◌}
+use Rattle.std.specs.Prelude.{[], Bool, List, cond, false, filter, flat_map, not, true, ◌++◌, ◌∷◌}
 use Rattle.cyp_spec.specs.Trees.{BlockOf, BodyTree, Braces, ChunkTree, Comparing, Comparison, Conjunction, Inside, InstanceOf, IsAbove, IsAtLeast, IsAtMost, IsBelow, ItemTree, Items, LitItem, LitTree, NamedCell, Negation, NoItems, PartName, PartTree, PredTree, PureTree, SameSets, SetTree, SubSets, TermCell, TrueItem}
 use Rattle.cyp_spec.specs.Uses.{Use, chunk_uses, int_uses, lit_uses, part_uses, parts_uses, set_parts}
 

@@ -1,5 +1,5 @@
 -- The fault of lexemes that spell no specification: the first lexeme that no text of the grammar allows, or the end.
-use Rattle.std.specs.Prelude.{[], Bool, IsTrue, List, cond, false, map, true, ℕ, ◌++◌, ◌∷◌, ◌≡◌, ◌⊎◌}
+use Rattle.std.specs.Prelude.{[], Bool, IsTrue, List, cond, false, true, ℕ, ◌++◌, ◌∷◌, ◌≡◌, ◌⊎◌}
 use Rattle.std.specs.List.{list_any}
 use Rattle.cyp_lex.specs.declared.fault.Fault.{Fault}
 use Rattle.cyp_lex.specs.declared.fault.FaultKind.{FaultKind}

@@ -1,11 +1,10 @@
 -- The terms, literals and chunks that a tree says, where its names stand for these variables.
-use Rattle.std.specs.Prelude.{[], List, None, Some, cond, flat_map, map, neg_ℤ, pos, ℕ, ◌+◌, ◌++◌, ◌∷◌}
+use Rattle.std.specs.Prelude.{[], List, None, cond, flat_map, map, neg_ℤ, pos, ℕ, ◌+◌, ◌∷◌}
 use Rattle.std.specs.Str.{bytes_eq}
 use Rattle.cyp_heap.specs.declared.chunk.Arg.{Arg}
 use Rattle.cyp_heap.specs.declared.chunk.Arg.TheVariants.{Int as IntArg, Set as SetArg}
 use Rattle.cyp_heap.specs.declared.chunk.Chunk.{Chunk}
 use Rattle.cyp_heap.specs.declared.chunk.Chunk.TheVariants.{Block, Cell, Inst}
-use Rattle.cyp_heap.specs.declared.chunk.Heap.{Heap}
 use Rattle.cyp_term.specs.Terms.{negated, number_term, plus, set_var, sort_eq, term_eq, var_eq, var_term, without_repeats}
 use Rattle.cyp_term.specs.declared.lit.Lit.{Lit}
 use Rattle.cyp_term.specs.declared.lit.Lit.TheVariants.{Eq, Le, Lt, Member, Ne, Same, Sub}

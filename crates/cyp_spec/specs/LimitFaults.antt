@@ -1,5 +1,5 @@
 -- The faults of predicates and limits in a specification whose names and sorts are right.
-use Rattle.std.specs.Prelude.{[], Bool, List, None, Option, Some, cond, flat_map, is_some, length, map, nat_le, not, slice_get, ◌&&◌, ◌++◌, ◌∷◌}
+use Rattle.std.specs.Prelude.{[], Bool, List, None, Option, Some, cond, flat_map, is_some, length, nat_le, not, slice_get, ◌&&◌, ◌++◌, ◌∷◌}
 use Rattle.std.specs.List.{list_all, list_any}
 use Rattle.cyp_goal.specs.Normal.{normal}
 use Rattle.cyp_heap.specs.Limits.{chunk_elements, is_goal_within}

@@ -1,5 +1,5 @@
 -- The faults of names and sorts in a specification.
-use Rattle.std.specs.Prelude.{[], Bool, List, None, Option, Some, cond, false, flat_map, length, map, not, true, ℕ, ◌++◌, ◌==◌, ◌∷◌}
+use Rattle.std.specs.Prelude.{[], Bool, List, None, Option, Some, cond, false, flat_map, length, map, true, ℕ, ◌++◌, ◌==◌, ◌∷◌}
 use Rattle.std.specs.List.{list_any}
 use Rattle.std.specs.Str.{bytes_eq}
 use Rattle.cyp_lex.specs.declared.fault.Fault.{Fault}

@@ -1,5 +1,5 @@
 -- The tree by which a specification is printed. Its places say nothing.
-use Rattle.std.specs.Prelude.{[], Bool, List, None, Option, Some, cond, codes, decimal, filter, length, map, negsuc, pos, slice_get, suc, zero, ℕ, ℤ, ◌++◌, ◌∷◌}
+use Rattle.std.specs.Prelude.{[], List, None, Option, Some, codes, decimal, filter, length, map, negsuc, pos, slice_get, suc, zero, ℕ, ℤ, ◌++◌, ◌∷◌}
 use Rattle.cyp_grammar.specs.Spelling.{Ident}
 use Rattle.cyp_heap.specs.declared.chunk.Arg.{Arg}
 use Rattle.cyp_heap.specs.declared.chunk.Arg.TheVariants.{Int as IntArg, Set as SetArg}
@@ -13,7 +13,7 @@ use Rattle.cyp_term.specs.declared.lit.Lit.{Lit}
 use Rattle.cyp_term.specs.declared.lit.Lit.TheVariants.{Eq, Le, Lt, Member, Ne, NotMember, NotSame, NotSub, Same, Sub}
 use Rattle.cyp_term.specs.declared.lit.SetTerm.{SetTerm}
 use Rattle.cyp_term.specs.declared.term.Sort.{Sort}
-use Rattle.cyp_term.specs.declared.term.Sort.TheVariants.{Card, Int, Set}
+use Rattle.cyp_term.specs.declared.term.Sort.TheVariants.{Set}
 use Rattle.cyp_term.specs.declared.term.Term.{Term}
 use Rattle.cyp_term.specs.declared.term.Var.{Var}
 use Rattle.cyp_spec.specs.Trees.{Ampersands, ArgTree, BlockOf, BodyTree, Braces, BracesArg, ChunkTree, ClauseTree, Comparing, Conjunction, Inside, InstanceOf, IntSort, IntTree, IsAtMost, IsBelow, IsEqual, IsUnequal, ItemTree, Items, LitItem, LitTree, MinusNum, NameMinus, NamePlus, Named, NamedCell, Negation, NoItems, Num, ParamTree, PartName, PartTree, PureTree, SameSets, SetSort, SetTree, SortTree, SubSets, TermArg, TermCell, UnionArg}

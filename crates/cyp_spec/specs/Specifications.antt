@@ -9,7 +9,6 @@ use Rattle.cyp_heap.specs.declared.pred.Preds.{Preds}
 use Rattle.cyp_term.specs.Terms.{sort_eq, with_all_new, without_repeats}
 use Rattle.cyp_term.specs.declared.term.Sort.{Sort}
 use Rattle.cyp_term.specs.declared.term.Sort.TheVariants.{Card, Int, Set}
-use Rattle.cyp_term.specs.declared.term.Var.{Var}
 use Rattle.cyp_spec.specs.Bodies.{kept_body, kept_lit}
 use Rattle.cyp_spec.specs.Kept.{Scope, kept_chunks, kept_literal, kept_literals, use_var}
 use Rattle.cyp_spec.specs.NameFaults.{clauses}

@@ -1,5 +1,5 @@
 -- Where the names of a specification stand for variables, and of which sort.
-use Rattle.std.specs.Prelude.{[], Bool, List, None, Option, Some, cond, false, flat_map, length, map, not, suc, true, ℕ, ◌++◌, ◌==◌, ◌∷◌}
+use Rattle.std.specs.Prelude.{[], Bool, List, None, Option, Some, cond, flat_map, length, map, suc, ℕ, ◌++◌, ◌==◌, ◌∷◌}
 use Rattle.std.specs.Str.{bytes_eq}
 use Rattle.cyp_term.specs.declared.term.Sort.{Sort}
 use Rattle.cyp_term.specs.declared.term.Sort.TheVariants.{Int, Set}
