@@ -34,11 +34,15 @@ spelled_by_none t m = none_by t.preds _ m
 
 no_procedure : IsReading [] (refused MissingProcedure 0)
 unfolding lexed piece_at sign_at stands name_kind
-no_procedure = inr (_, inr (record {
-  unfinished = ((least (codes "f") 5, lexemes (codes "void f(){emp}{emp}"), assumption refl), spelled_by_none);
-  kind = refl;
-  place = refl;
-}), refl)
+no_procedure = inr (
+  _,
+  inr (record {
+    unfinished = ((least (codes "f") 5, lexemes (codes "void f(){emp}{emp}"), assumption refl), spelled_by_none);
+    kind = refl;
+    place = refl;
+  }),
+  refl,
+)
 
 -- ---- a reserved word where no name is allowed
 
@@ -63,15 +67,19 @@ no_name_first all = begins_not (Name []) (λ e. cc) (λ e. cc) (name_at [] 0) re
 
 first_word : IsReading (codes "if") (refused Expected 0)
 unfolding lexed piece_at sign_at stands name_kind
-first_word = inr (_, inl (record {
-  before = [];
-  lexeme = if_at 0;
-  after = [];
-  parts = refl;
-  refused = ((least (codes "f") 5, lexemes (codes "void f(){emp}{emp}"), assumption refl), begins_not (Reserved If) (λ e. cc) (λ e. cc) (if_at 0) refl);
-  kind = other (spoils_nothing []) no_name_first;
-  place = refl;
-}), refl)
+first_word = inr (
+  _,
+  inl (record {
+    before = [];
+    lexeme = if_at 0;
+    after = [];
+    parts = refl;
+    refused = ((least (codes "f") 5, lexemes (codes "void f(){emp}{emp}"), assumption refl), begins_not (Reserved If) (λ e. cc) (λ e. cc) (if_at 0) refl);
+    kind = other (spoils_nothing []) no_name_first;
+    place = refl;
+  }),
+  refl,
+)
 
 -- ---- a reserved word where a name is allowed
 
@@ -92,15 +100,19 @@ behind (l ∷ ls) = ls
 
 second_void : IsReading voids (refused ReservedName 5)
 unfolding lexed piece_at sign_at stands name_kind
-second_void = inr (_, inl (record {
-  before = void_at 0 ∷ [];
-  lexeme = void_at 5;
-  after = behind (behind (lexemes voids));
-  parts = refl;
-  refused = (
-    (least (codes "f") 5, behind (lexemes (codes "void f(){emp}{emp}")), assumption refl),
-    λ b. no_second_by b.0.preds b.0.name _ b.1 b.2
-  );
-  kind = reserved (λ text place. (least text place, behind (behind (lexemes (codes "void f(){emp}{emp}"))), assumption refl));
-  place = refl;
-}), refl)
+second_void = inr (
+  _,
+  inl (record {
+    before = void_at 0 ∷ [];
+    lexeme = void_at 5;
+    after = behind (behind (lexemes voids));
+    parts = refl;
+    refused = (
+      (least (codes "f") 5, behind (lexemes (codes "void f(){emp}{emp}")), assumption refl),
+      λ b. no_second_by b.0.preds b.0.name _ b.1 b.2,
+    );
+    kind = reserved (λ text place. (least text place, behind (behind (lexemes (codes "void f(){emp}{emp}"))), assumption refl));
+    place = refl;
+  }),
+  refl,
+)

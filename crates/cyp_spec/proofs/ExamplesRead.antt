@@ -16,10 +16,10 @@ use Rattle.cyp_spec.specs.Trees.{LocSort, Named, NamedCell, NoItems, Num, TextTr
 use Rattle.cyp_spec.proofs.ExampleForms.{S, X, block, cell, goal, inst, k, no_preds, num, plus, s, sll_preds, sll_text, tree_of, x}
 
 arrow_tokens : tokens_of (codes "x:->a") ≡ Ok (
-  record { kind = kinds.Name; start = 0; end = 1 }
-  ∷ record { kind = kinds.Sign PointsTo; start = 1; end = 4 }
-  ∷ record { kind = kinds.Name; start = 4; end = 5 }
-  ∷ [])
+    record { kind = kinds.Name; start = 0; end = 1 }
+    ∷ record { kind = kinds.Sign PointsTo; start = 1; end = 4 }
+    ∷ record { kind = kinds.Name; start = 4; end = 5 }
+    ∷ [])
 unfolding lexed piece_at sign_at stands name_kind
 arrow_tokens = refl
 

@@ -33,23 +33,27 @@ kind_by before k (inr ns) (inr nt) = (Expected, other ns nt)
 
 fault_by : ((ls : List Lexeme) → Parsed ls) → (size : ℕ) (ls : List Lexeme) (s : Stops ls) (rest : List Lexeme) → ls ≡ s.before ++ rest → IsNoMore s.before rest → (f : Fault) × GrammarFault size ls f
 fault_by parse size ls s [] p end =
-    let all : s.before ≡ ls = sym (p ∙ append-nil s.before) in
-    (record { kind = end_kind ls; place = size }, inr (record {
-      unfinished = (subst (λ (bs : List Lexeme). Begins text_spelling bs) all s.begins, subst (λ (bs : List Lexeme). IsNoMore bs []) all end);
-      kind = refl;
-      place = refl;
-    }))
+    let all : s.before ≡ ls = sym (p ∙ append-nil s.before) in (
+      record { kind = end_kind ls; place = size },
+      inr (record {
+        unfinished = (subst (λ (bs : List Lexeme). Begins text_spelling bs) all s.begins, subst (λ (bs : List Lexeme). IsNoMore bs []) all end);
+        kind = refl;
+        place = refl;
+      }),
+    )
 fault_by parse size ls s (l ∷ more) p refused =
-    let kind : SomeKind s.before l.said = kind_by s.before l.said (decide_spoils parse s.before s.begins l.said) (decide_takes s.before s.names l.said) in
-    (record { kind = kind.0; place = l.place }, inl (record {
-      before = s.before;
-      lexeme = l;
-      after = more;
-      parts = p;
-      refused = (s.begins, refused);
-      kind = kind.1;
-      place = refl;
-    }))
+    let kind : SomeKind s.before l.said = kind_by s.before l.said (decide_spoils parse s.before s.begins l.said) (decide_takes s.before s.names l.said) in (
+      record { kind = kind.0; place = l.place },
+      inl (record {
+        before = s.before;
+        lexeme = l;
+        after = more;
+        parts = p;
+        refused = (s.begins, refused);
+        kind = kind.1;
+        place = refl;
+      }),
+    )
 
 -- lexemes that stop have a fault of the grammar
 pub some_fault : ((ls : List Lexeme) → Parsed ls) → (size : ℕ) (ls : List Lexeme) → Stops ls → (f : Fault) × GrammarFault size ls f

@@ -9,10 +9,10 @@ use Rattle.cyp_spec.specs.Trees.{TextTree}
 -- what begins so begins with each part of it
 pub begins_less : (before : List Lexeme) (l : Lexeme) (more : List Lexeme) → Begins text_spelling (before ++ l ∷ more) → Begins text_spelling (before ++ l ∷ [])
 begins_less before l more b = (
-    b.0,
-    more ++ b.1,
-    subst (λ (ls : List Lexeme). Match (text_spelling b.0) ls) (append_assoc before (l ∷ more) b.1 ∙ sym (append_assoc before (l ∷ []) (more ++ b.1))) b.2
-  )
+  b.0,
+  more ++ b.1,
+  subst (λ (ls : List Lexeme). Match (text_spelling b.0) ls) (append_assoc before (l ∷ more) b.1 ∙ sym (append_assoc before (l ∷ []) (more ++ b.1))) b.2,
+)
 
 -- what is spelled begins so
 pub spelled_begins : (t : TextTree) (before : List Lexeme) (l : Lexeme) (more : List Lexeme) → Match (text_spelling t) (before ++ l ∷ more) → Begins text_spelling (before ++ l ∷ [])

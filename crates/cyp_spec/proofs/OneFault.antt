@@ -39,7 +39,7 @@ same_fault f g k p = ap (λ (x : FaultKind). fault x f.place) k ∙ ap (λ (n : 
 lexeme_fault : (ls : List Lexeme) (f g : Fault) (a : RefusesLexeme ls f) (b : RefusesLexeme ls g) → Parted a.before b.before a.lexeme b.lexeme → f ≡ g
 lexeme_fault ls f g a b (same p q) =
     let kind : IsKind a.before a.lexeme.said g.kind =
-        subst (λ (l : Lexeme). IsKind a.before l.said g.kind) (sym q) (subst (λ (bs : List Lexeme). IsKind bs b.lexeme.said g.kind) (sym p) b.kind) in
+    subst (λ (l : Lexeme). IsKind a.before l.said g.kind) (sym q) (subst (λ (bs : List Lexeme). IsKind bs b.lexeme.said g.kind) (sym p) b.kind) in
     same_fault f g (one_kind a.before a.lexeme.said f.kind g.kind a.kind kind) (a.place ∙ ap (λ (l : Lexeme). l.place) q ∙ sym b.place)
 lexeme_fault ls f g a b (longer more p) =
     absurd (a.refused.1 (begins_less a.before a.lexeme more (subst (λ (bs : List Lexeme). Begins text_spelling bs) p b.refused.0)))

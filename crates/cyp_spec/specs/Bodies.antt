@@ -8,6 +8,7 @@ abbrev pub item_lits : ItemTree → List LitTree
 item_lits TrueItem = []
 item_lits (LitItem l) = l ∷ []
 
+-- the literals of a pure part in their order
 abbrev pub pure_lits : PureTree → List LitTree
 pure_lits NoItems = []
 pure_lits (Items i is) = item_lits i ++ flat_map (λ (p : Conjunction × ItemTree). item_lits p.1) is
@@ -22,6 +23,7 @@ body_uses qs b = flat_map lit_uses (body_lits b) ++ flat_map (chunk_uses parts_u
 
 -- ---- the order of what is kept
 
+-- the three kinds of chunks
 abbrev pub is_instance : ChunkTree → Bool
 is_instance (InstanceOf i xs) = true
 is_instance _ = false
@@ -39,6 +41,7 @@ is_cell _ = false
 abbrev pub in_kinds : List ChunkTree → List ChunkTree
 in_kinds cs = filter is_instance cs ++ filter is_block cs ++ filter is_cell cs
 
+-- the part is a name
 abbrev pub is_name : PartTree → Bool
 is_name (PartName i) = true
 is_name (Braces p ts) = false
@@ -47,6 +50,7 @@ is_name (Braces p ts) = false
 abbrev pub kept_parts : List PartTree → List Use
 kept_parts us = flat_map part_uses (filter is_name us) ++ flat_map part_uses (filter (λ u. not (is_name u)) us)
 
+-- the names in a union as it is kept
 abbrev pub kept_set : SetTree → List Use
 kept_set u = kept_parts (set_parts u)
 

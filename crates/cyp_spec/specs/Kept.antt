@@ -37,11 +37,13 @@ rank_of s (u ∷ us) name = cond (bytes_eq u.name.text name) 0 (cond (sort_eq u.
 abbrev pub var_named : Scope → List ℕ → Var
 var_named sc name = let s : Sort = sort_in sc name in record { sort = s; number = rank_of s sc name }
 
+-- the variable of a name
 abbrev pub use_var : Scope → Use → Var
 use_var sc u = var_named sc u.name.text
 
 -- ---- terms and literals
 
+-- a number, a variable, or a variable plus or minus a number
 abbrev pub kept_int : Scope → IntTree → Term
 kept_int sc (Num p n) = number_term (pos n)
 kept_int sc (MinusNum p n) = number_term (neg_ℤ (pos n))
@@ -50,10 +52,12 @@ kept_int sc (NamePlus i n) = plus (var_term (var_named sc i.text)) (pos n)
 kept_int sc (NameMinus i n) = plus (var_term (var_named sc i.text)) (neg_ℤ (pos n))
 kept_int sc (NumPlus p n i) = plus (var_term (var_named sc i.text)) (pos n)
 
+-- a part that is a name is a set variable
 abbrev pub part_vars : Scope → PartTree → List Var
 part_vars sc (PartName i) = var_named sc i.text ∷ []
 part_vars sc (Braces p ts) = []
 
+-- a part in braces has its terms as elements
 abbrev pub part_elems : Scope → PartTree → List Term
 part_elems sc (PartName i) = []
 part_elems sc (Braces p ts) = map (kept_int sc) ts
@@ -62,6 +66,7 @@ part_elems sc (Braces p ts) = map (kept_int sc) ts
 abbrev pub kept_union : Scope → List PartTree → SetTerm
 kept_union sc us = record { vars = without_repeats var_eq (flat_map (part_vars sc) us); elems = without_repeats term_eq (flat_map (part_elems sc) us) }
 
+-- the set term that a union says
 abbrev pub kept_set_term : Scope → SetTree → SetTerm
 kept_set_term sc u = kept_union sc (set_parts u)
 
@@ -74,6 +79,7 @@ compared IsBelow a b = Lt a b
 compared IsAtLeast a b = Le b a
 compared IsAbove a b = Lt b a
 
+-- `not` negates its literal, and elsewhere the sides are kept as `compared` says
 abbrev pub kept_literal : Scope → LitTree → Lit
 kept_literal sc (Comparing a c b) = compared c (kept_int sc a) (kept_int sc b)
 kept_literal sc (SameSets a b) = Same (kept_set_term sc a) (kept_set_term sc b)
@@ -81,6 +87,7 @@ kept_literal sc (SubSets a b) = Sub (kept_set_term sc a) (kept_set_term sc b)
 kept_literal sc (Inside a b) = Member (kept_int sc a) (kept_set_term sc b)
 kept_literal sc (Negation p l) = negated (kept_literal sc l)
 
+-- the literals of a body in their order
 abbrev pub kept_literals : Scope → BodyTree → List Lit
 kept_literals sc b = map (kept_literal sc) (body_lits b)
 
@@ -93,6 +100,7 @@ kept_arg sc s (TermArg t) = IntArg (kept_int sc t)
 kept_arg sc s (BracesArg p ts us) = SetArg (kept_union sc (Braces p ts ∷ us))
 kept_arg sc s (UnionArg i u us) = SetArg (kept_union sc (PartName i ∷ u ∷ us))
 
+-- each argument by the sort of its parameter
 abbrev pub kept_args : Scope → List Sort → List ArgTree → List Arg
 kept_args sc (s ∷ ss) (x ∷ xs) = kept_arg sc s x ∷ kept_args sc ss xs
 kept_args sc _ _ = []

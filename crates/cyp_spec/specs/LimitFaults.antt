@@ -43,6 +43,7 @@ abbrev pub size_fault : ChunkTree → List Fault
 size_fault (BlockOf a p n) = cond (nat_le 1 n && nat_le n 8) [] (fault_at TooLarge p)
 size_fault _ = []
 
+-- the wrong sizes of blocks in a body
 abbrev pub size_faults : BodyTree → List Fault
 size_faults b = flat_map size_fault b.chunks
 
@@ -57,6 +58,7 @@ is_clause_within c =
 abbrev pub is_pred_within : Pred → Bool
 is_pred_within q = nat_le (length q.params) 8 && nat_le (length q.clauses) 8 && list_all is_clause_within q.clauses
 
+-- the faults of a predicate: its guards, clauses without a cell, sizes of blocks, and its limits at its name
 abbrev pub pred_limit_faults : List PredTree → PredTree → List Fault
 pred_limit_faults qs q =
     overlap_faults (guard_of qs q.params) [] (clauses q)

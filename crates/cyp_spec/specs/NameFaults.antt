@@ -13,6 +13,7 @@ use Rattle.cyp_spec.specs.Bodies.{body_uses}
 use Rattle.cyp_spec.specs.Trees.{ArgTree, Braces, BracesArg, ChunkTree, ClauseTree, Comparing, Inside, InstanceOf, IntTree, LitTree, MinusNum, NameMinus, NamePlus, Named, Negation, Num, NumPlus, ParamTree, PartName, PartTree, PredTree, SameSets, SetTree, SubSets, TermArg, TextTree, UnionArg}
 use Rattle.cyp_spec.specs.Uses.{Use, lit_uses, param_sort, param_uses, pred_named}
 
+-- this fault alone
 abbrev pub fault_at : FaultKind → ℕ → List Fault
 fault_at k p = record { kind = k; place = p } ∷ []
 
@@ -27,10 +28,12 @@ int_place (NamePlus i n) = i.place
 int_place (NameMinus i n) = i.place
 int_place (NumPlus p n i) = p
 
+-- where a part of a union begins
 abbrev pub part_place : PartTree → ℕ
 part_place (PartName i) = i.place
 part_place (Braces p ts) = p
 
+-- where a union begins
 abbrev pub set_place : SetTree → ℕ
 set_place u = part_place u.first
 
@@ -50,6 +53,7 @@ repeats seen [] = []
 repeats seen (i ∷ is) =
     cond (list_any (λ (j : Ident). bytes_eq j.text i.text) seen) (fault_at DuplicateName i.place) [] ++ repeats (seen ++ i ∷ []) is
 
+-- the names of the parameters
 abbrev pub param_names : List ParamTree → List Ident
 param_names ps = map (λ (p : ParamTree). p.name) ps
 
@@ -77,6 +81,7 @@ arg_fault s (TermArg t) = cond (sort_eq s Int) [] (fault_at WrongSort (int_place
 arg_fault s (BracesArg p ts us) = cond (sort_eq s Set) [] (fault_at WrongSort p)
 arg_fault s (UnionArg i u us) = cond (sort_eq s Set) [] (fault_at WrongSort i.place)
 
+-- each argument beside the sort of its parameter
 abbrev pub arg_faults : List Sort → List ArgTree → List Fault
 arg_faults (s ∷ ss) (x ∷ xs) = arg_fault s x ++ arg_faults ss xs
 arg_faults _ _ = []
@@ -93,6 +98,7 @@ chunk_faults qs _ = []
 
 -- ---- clauses, predicates, the procedure
 
+-- the literal is an equality, inclusion or membership of sets, or the negation of one
 abbrev pub is_set_literal : LitTree → Bool
 is_set_literal (Comparing a c b) = false
 is_set_literal (Negation p l) = is_set_literal l
@@ -106,13 +112,16 @@ unbound_fault ps u = cond (list_any (λ (i : Ident). bytes_eq i.text u.name.text
 abbrev pub guard_faults : List ParamTree → LitTree → List Fault
 guard_faults ps g = cond (is_set_literal g) (fault_at WrongSort (lit_place g)) [] ++ flat_map (unbound_fault ps) (lit_uses g)
 
+-- the faults of the guard, of sorts, and of the instances
 abbrev pub clause_faults : List PredTree → List ParamTree → ClauseTree → List Fault
 clause_faults qs ps c =
     guard_faults ps c.guard ++ sort_faults (param_uses ps) (lit_uses c.guard ++ body_uses qs c.body) ++ flat_map (chunk_faults qs) c.body.chunks
 
+-- the clauses of a predicate
 abbrev pub clauses : PredTree → List ClauseTree
 clauses q = q.first ∷ q.others
 
+-- a second parameter of a name, and the faults of each clause
 abbrev pub pred_faults : List PredTree → PredTree → List Fault
 pred_faults qs q = repeats [] (param_names q.params) ++ flat_map (clause_faults qs q.params) (clauses q)
 
@@ -120,6 +129,7 @@ pred_faults qs q = repeats [] (param_names q.params) ++ flat_map (clause_faults 
 abbrev pub set_param_fault : ParamTree → List Fault
 set_param_fault p = cond (sort_eq (param_sort p) Set) (fault_at WrongSort p.place) []
 
+-- the faults of the procedure: its two bodies speak of the same variables
 abbrev pub proc_faults : TextTree → List Fault
 proc_faults t =
     repeats [] (param_names t.params)

@@ -18,11 +18,13 @@ use Rattle.cyp_term.specs.declared.term.Term.{Term}
 use Rattle.cyp_term.specs.declared.term.Var.{Var}
 use Rattle.cyp_spec.specs.Trees.{Ampersands, ArgTree, BlockOf, BodyTree, Braces, BracesArg, ChunkTree, ClauseTree, Comparing, Conjunction, Inside, InstanceOf, IntSort, IntTree, IsAtMost, IsBelow, IsEqual, IsUnequal, ItemTree, Items, LitItem, LitTree, MinusNum, NameMinus, NamePlus, Named, NamedCell, Negation, NoItems, Num, ParamTree, PartName, PartTree, PureTree, SameSets, SetSort, SetTree, SortTree, SubSets, TermArg, TermCell, UnionArg}
 
+-- a name
 abbrev pub ident_of : List ℕ → Ident
 ident_of text = record { text = text; place = 0 }
 
 -- ---- terms
 
+-- the letter by which variables of a sort are printed
 abbrev pub sort_letter : Sort → List ℕ
 sort_letter Set = codes "s"
 sort_letter _ = codes "x"
@@ -31,6 +33,7 @@ sort_letter _ = codes "x"
 abbrev pub var_ident : Var → Ident
 var_ident v = ident_of (sort_letter v.sort ++ decimal (suc v.number))
 
+-- a number with its sign, a variable, or a variable and `+` or `-` and a number
 abbrev pub term_tree_by : Option Var → ℤ → IntTree
 term_tree_by None (pos n) = Num 0 n
 term_tree_by None (negsuc n) = MinusNum 0 (suc n)
@@ -38,6 +41,7 @@ term_tree_by (Some v) (pos zero) = Named (var_ident v)
 term_tree_by (Some v) (pos (suc n)) = NamePlus (var_ident v) (suc n)
 term_tree_by (Some v) (negsuc n) = NameMinus (var_ident v) (suc n)
 
+-- an integer term
 abbrev pub term_tree : Term → IntTree
 term_tree t = term_tree_by t.base t.offset
 
@@ -50,15 +54,18 @@ braces_of _ ts = Braces 0 (map term_tree ts) ∷ []
 abbrev pub parts_of : SetTerm → List PartTree
 parts_of u = map (λ v. PartName (var_ident v)) u.vars ++ braces_of u.vars u.elems
 
+-- a union of these parts
 abbrev pub union_tree : List PartTree → SetTree
 union_tree [] = record { first = Braces 0 []; others = [] }
 union_tree (u ∷ us) = record { first = u; others = us }
 
+-- a set term
 abbrev pub set_tree : SetTerm → SetTree
 set_tree u = union_tree (parts_of u)
 
 -- ---- literals
 
+-- a literal; a negated set literal is printed with `not`
 abbrev pub lit_tree : Lit → LitTree
 lit_tree (Eq a b) = Comparing (term_tree a) IsEqual (term_tree b)
 lit_tree (Ne a b) = Comparing (term_tree a) IsUnequal (term_tree b)
@@ -71,6 +78,7 @@ lit_tree (NotMember a b) = Negation 0 (Inside (term_tree a) (set_tree b))
 lit_tree (Sub a b) = SubSets (set_tree a) (set_tree b)
 lit_tree (NotSub a b) = Negation 0 (SubSets (set_tree a) (set_tree b))
 
+-- a literal behind `&&`
 abbrev pub later_tree : Lit → Conjunction × ItemTree
 later_tree l = (Ampersands, LitItem (lit_tree l))
 
@@ -88,6 +96,7 @@ union_arg (Braces p ts ∷ us) = BracesArg p ts us
 union_arg (PartName i ∷ []) = TermArg (Named i)
 union_arg (PartName i ∷ u ∷ us) = UnionArg i u us
 
+-- an argument
 abbrev pub arg_tree : Arg → ArgTree
 arg_tree (IntArg t) = TermArg (term_tree t)
 arg_tree (SetArg u) = union_arg (parts_of u)
@@ -97,15 +106,18 @@ abbrev pub cell_tree : IntTree → IntTree → ChunkTree
 cell_tree (Named i) t = NamedCell i t
 cell_tree a t = TermCell a t
 
+-- a predicate's name
 abbrev pub pred_name : Option Pred → List ℕ
 pred_name None = []
 pred_name (Some q) = q.name
 
+-- a chunk; an instance is printed without its cardinality and tag
 abbrev pub chunk_tree : Preds → Chunk → ChunkTree
 chunk_tree preds (Inst i) = InstanceOf (ident_of (pred_name (slice_get preds.list i.pred))) (map arg_tree i.args)
 chunk_tree preds (Block k) = BlockOf (term_tree k.at) 0 k.size
 chunk_tree preds (Cell k) = cell_tree (term_tree k.at) (term_tree k.content)
 
+-- literals and chunks
 abbrev pub body_tree : Preds → List Lit → List Chunk → BodyTree
 body_tree preds ls cs = record { pure = pure_tree ls; chunks = map (chunk_tree preds) cs }
 
@@ -116,6 +128,7 @@ abbrev pub sort_tree : Sort → SortTree
 sort_tree Set = SetSort
 sort_tree _ = IntSort
 
+-- the parameter that this variable is
 abbrev pub param_tree : Var → ParamTree
 param_tree v = record { sort = sort_tree v.sort; place = 0; name = var_ident v }
 
@@ -124,5 +137,6 @@ abbrev pub params_from : List Sort → List Sort → List Var
 params_from seen [] = []
 params_from seen (s ∷ ss) = record { sort = s; number = length (filter (sort_eq s) seen) } ∷ params_from (seen ++ s ∷ []) ss
 
+-- a clause
 abbrev pub clause_tree : Preds → Clause → ClauseTree
 clause_tree preds c = record { place = 0; guard = lit_tree c.guard; body = body_tree preds c.lits c.heap.chunks }

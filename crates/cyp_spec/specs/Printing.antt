@@ -34,10 +34,12 @@ is_closing (Symbol RightBracket) = true
 is_closing (Symbol Comma) = true
 is_closing _ = false
 
+-- the token is a name
 abbrev pub is_name : Said → Bool
 is_name (Name text) = true
 is_name _ = false
 
+-- the token is `(`
 abbrev pub is_paren : Said → Bool
 is_paren (Symbol LeftParen) = true
 is_paren _ = false
@@ -51,10 +53,12 @@ abbrev pub spaced_behind : Said → List Said → List ℕ
 spaced_behind j [] = []
 spaced_behind j (k ∷ ks) = cond (is_tight j k) [] (codes " ") ++ said_text k ++ spaced_behind k ks
 
+-- the tokens with blanks between them
 abbrev pub spaced : List Said → List ℕ
 spaced [] = []
 spaced (k ∷ ks) = said_text k ++ spaced_behind k ks
 
+-- what a mark says, wherever it stands
 abbrev pub mark_said : Mark → Said
 mark_said (Any k) = k
 mark_said (At k p) = k
@@ -65,12 +69,14 @@ line_of ms = spaced (map mark_said ms) ++ codes "\n"
 
 -- ---- lines
 
+-- the line of a predicate
 abbrev pub pred_line : Preds → Pred → List ℕ
 pred_line preds q = line_of (
     word Predicate ∷ ident (ident_of q.name)
     ∷ (params_spelling (map param_tree (params_from [] q.params))
     ++ (sign LeftBrace ∷ (all_spelling clause_spelling (map (clause_tree preds) q.clauses) ++ sign RightBrace ∷ []))))
 
+-- the line of the procedure
 abbrev pub proc_line : Specification → List ℕ
 proc_line s = line_of (
     word Void ∷ ident (ident_of s.name)

@@ -31,6 +31,7 @@ clause_scope qs ps c = without_repeats same_name (param_uses ps ++ kept_lit fals
 abbrev pub count_sort : Sort → Scope → ℕ
 count_sort s sc = length (filter (λ (u : Use). sort_eq u.sort s) sc)
 
+-- a clause with its variables numbered; its counts are those of all its names
 abbrev pub said_clause : List PredTree → List ParamTree → ClauseTree → Clause
 said_clause qs ps c =
     let sc : Scope = clause_scope qs ps c in
@@ -42,6 +43,7 @@ said_clause qs ps c =
       sets = count_sort Set sc;
     }
 
+-- a predicate with the sorts of its parameters and its clauses
 abbrev pub said_pred : List PredTree → PredTree → Pred
 said_pred qs q = record {
   name = q.name.text;
@@ -49,6 +51,7 @@ said_pred qs q = record {
   clauses = map (said_clause qs q.params) (clauses q);
 }
 
+-- the predicates in the order of the text
 abbrev pub said_preds : List PredTree → Preds
 said_preds qs = record { list = map (said_pred qs) qs }
 
