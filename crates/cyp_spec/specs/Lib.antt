@@ -3,7 +3,7 @@ pub mod Grammar
 pub mod GrammarFaults
 pub mod Uses
 pub mod Bodies
-pub mod Kept
+pub mod ReadTerms
 pub mod NameFaults
 pub mod Specifications
 pub mod LimitFaults

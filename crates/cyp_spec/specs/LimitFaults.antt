@@ -13,14 +13,14 @@ use Rattle.cyp_term.specs.Terms.{lit_elements, term_eq, without_repeats}
 use Rattle.cyp_term.specs.declared.lit.Lit.{Lit}
 use Rattle.cyp_spec.specs.Bodies.{is_cell, is_instance}
 use Rattle.cyp_spec.specs.NameFaults.{clauses, fault_at, lit_place}
-use Rattle.cyp_spec.specs.Specifications.{Specification, read_tree, said_clause, said_pred}
+use Rattle.cyp_spec.specs.Specifications.{Specification, read_tree, read_clause, read_pred}
 use Rattle.cyp_spec.specs.Trees.{BlockOf, BodyTree, ChunkTree, ClauseTree, ParamTree, PredTree, TextTree}
 
 -- ---- guards and cells
 
 -- the guard of a clause, over the variables of the parameters
 abbrev pub guard_of : List PredTree → List ParamTree → ClauseTree → Lit
-guard_of qs ps c = (said_clause qs ps c).guard
+guard_of qs ps c = (read_clause qs ps c).guard
 
 -- the guard and one of these can both hold
 abbrev pub overlaps : List Lit → Lit → Bool
@@ -64,7 +64,7 @@ pred_limit_faults qs q =
     overlap_faults (guard_of qs q.params) [] (clauses q)
     ++ flat_map unproductive_fault (clauses q)
     ++ flat_map (λ (c : ClauseTree). size_faults c.body) (clauses q)
-    ++ cond (is_pred_within (said_pred qs q)) [] (fault_at TooLarge q.name.place)
+    ++ cond (is_pred_within (read_pred qs q)) [] (fault_at TooLarge q.name.place)
 
 -- a predicate past the 16th
 abbrev pub extra_pred_fault : Option PredTree → List Fault

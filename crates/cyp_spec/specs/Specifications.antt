@@ -10,7 +10,7 @@ use Rattle.cyp_term.specs.Terms.{sort_eq, with_all_new, without_repeats}
 use Rattle.cyp_term.specs.declared.term.Sort.{Sort}
 use Rattle.cyp_term.specs.declared.term.Sort.TheVariants.{Card, Int, Set}
 use Rattle.cyp_spec.specs.Bodies.{kept_body, kept_lit}
-use Rattle.cyp_spec.specs.Kept.{Scope, kept_chunks, kept_literal, kept_literals, use_var}
+use Rattle.cyp_spec.specs.ReadTerms.{Scope, read_chunks, read_lit, read_lits, use_var}
 use Rattle.cyp_spec.specs.NameFaults.{clauses}
 use Rattle.cyp_spec.specs.Trees.{ClauseTree, ParamTree, PredTree, TextTree}
 use Rattle.cyp_spec.specs.Uses.{Use, param_sort, param_uses, same_name}
@@ -32,28 +32,28 @@ abbrev pub count_sort : Sort → Scope → ℕ
 count_sort s sc = length (filter (λ (u : Use). sort_eq u.sort s) sc)
 
 -- a clause with its variables numbered; its counts are those of all its names
-abbrev pub said_clause : List PredTree → List ParamTree → ClauseTree → Clause
-said_clause qs ps c =
+abbrev pub read_clause : List PredTree → List ParamTree → ClauseTree → Clause
+read_clause qs ps c =
     let sc : Scope = clause_scope qs ps c in
     record {
-      guard = kept_literal sc c.guard;
-      lits = kept_literals sc c.body;
-      heap = record { chunks = kept_chunks qs sc c.body };
+      guard = read_lit sc c.guard;
+      lits = read_lits sc c.body;
+      heap = record { chunks = read_chunks qs sc c.body };
       ints = count_sort Int sc;
       sets = count_sort Set sc;
     }
 
 -- a predicate with the sorts of its parameters and its clauses
-abbrev pub said_pred : List PredTree → PredTree → Pred
-said_pred qs q = record {
+abbrev pub read_pred : List PredTree → PredTree → Pred
+read_pred qs q = record {
   name = q.name.text;
   params = map param_sort q.params;
-  clauses = map (said_clause qs q.params) (clauses q);
+  clauses = map (read_clause qs q.params) (clauses q);
 }
 
 -- the predicates in the order of the text
-abbrev pub said_preds : List PredTree → Preds
-said_preds qs = record { list = map (said_pred qs) qs }
+abbrev pub read_preds : List PredTree → Preds
+read_preds qs = record { list = map (read_pred qs) qs }
 
 -- ---- the goal
 
@@ -73,18 +73,18 @@ with_cards k (Block b ∷ cs) = Block b ∷ with_cards k cs
 with_cards k (Cell c ∷ cs) = Cell c ∷ with_cards k cs
 
 -- the parameters are the program variables, and what the postcondition alone has are the existentials
-abbrev pub said_goal : TextTree → Goal
-said_goal t =
+abbrev pub read_goal : TextTree → Goal
+read_goal t =
     let sc : Scope = goal_scope t in
     record {
       program = map (use_var sc) (param_uses t.params);
       exist = map (use_var sc) (drop (length (universal_scope t)) sc);
-      pure_pre = kept_literals sc t.pre;
-      pre = record { chunks = with_cards 0 (kept_chunks t.preds sc t.pre) };
-      pure_post = kept_literals sc t.post;
-      post = record { chunks = kept_chunks t.preds sc t.post };
+      pure_pre = read_lits sc t.pre;
+      pre = record { chunks = with_cards 0 (read_chunks t.preds sc t.pre) };
+      pure_post = read_lits sc t.post;
+      post = record { chunks = read_chunks t.preds sc t.post };
     }
 
 -- the specification that the tree says
 abbrev pub read_tree : TextTree → Specification
-read_tree t = record { preds = said_preds t.preds; name = t.name.text; goal = said_goal t }
+read_tree t = record { preds = read_preds t.preds; name = t.name.text; goal = read_goal t }

@@ -44,13 +44,13 @@ use_var sc u = var_named sc u.name.text
 -- ---- terms and literals
 
 -- a number, a variable, or a variable plus or minus a number
-abbrev pub kept_int : Scope → IntTree → Term
-kept_int sc (Num p n) = number_term (pos n)
-kept_int sc (MinusNum p n) = number_term (neg_ℤ (pos n))
-kept_int sc (Named i) = var_term (var_named sc i.text)
-kept_int sc (NamePlus i n) = plus (var_term (var_named sc i.text)) (pos n)
-kept_int sc (NameMinus i n) = plus (var_term (var_named sc i.text)) (neg_ℤ (pos n))
-kept_int sc (NumPlus p n i) = plus (var_term (var_named sc i.text)) (pos n)
+abbrev pub read_int : Scope → IntTree → Term
+read_int sc (Num p n) = number_term (pos n)
+read_int sc (MinusNum p n) = number_term (neg_ℤ (pos n))
+read_int sc (Named i) = var_term (var_named sc i.text)
+read_int sc (NamePlus i n) = plus (var_term (var_named sc i.text)) (pos n)
+read_int sc (NameMinus i n) = plus (var_term (var_named sc i.text)) (neg_ℤ (pos n))
+read_int sc (NumPlus p n i) = plus (var_term (var_named sc i.text)) (pos n)
 
 -- a part that is a name is a set variable
 abbrev pub part_vars : Scope → PartTree → List Var
@@ -60,15 +60,15 @@ part_vars sc (Braces p ts) = []
 -- a part in braces has its terms as elements
 abbrev pub part_elems : Scope → PartTree → List Term
 part_elems sc (PartName i) = []
-part_elems sc (Braces p ts) = map (kept_int sc) ts
+part_elems sc (Braces p ts) = map (read_int sc) ts
 
 -- a union without repeats
-abbrev pub kept_union : Scope → List PartTree → SetTerm
-kept_union sc us = record { vars = without_repeats var_eq (flat_map (part_vars sc) us); elems = without_repeats term_eq (flat_map (part_elems sc) us) }
+abbrev pub read_union : Scope → List PartTree → SetTerm
+read_union sc us = record { vars = without_repeats var_eq (flat_map (part_vars sc) us); elems = without_repeats term_eq (flat_map (part_elems sc) us) }
 
 -- the set term that a union says
-abbrev pub kept_set_term : Scope → SetTree → SetTerm
-kept_set_term sc u = kept_union sc (set_parts u)
+abbrev pub read_set : Scope → SetTree → SetTerm
+read_set sc u = read_union sc (set_parts u)
 
 -- `a > b` is `b < a`, and `a >= b` is `b <= a`
 abbrev pub compared : Comparison → Term → Term → Lit
@@ -80,38 +80,38 @@ compared IsAtLeast a b = Le b a
 compared IsAbove a b = Lt b a
 
 -- `not` negates its literal, and elsewhere the sides are kept as `compared` says
-abbrev pub kept_literal : Scope → LitTree → Lit
-kept_literal sc (Comparing a c b) = compared c (kept_int sc a) (kept_int sc b)
-kept_literal sc (SameSets a b) = Same (kept_set_term sc a) (kept_set_term sc b)
-kept_literal sc (SubSets a b) = Sub (kept_set_term sc a) (kept_set_term sc b)
-kept_literal sc (Inside a b) = Member (kept_int sc a) (kept_set_term sc b)
-kept_literal sc (Negation p l) = negated (kept_literal sc l)
+abbrev pub read_lit : Scope → LitTree → Lit
+read_lit sc (Comparing a c b) = compared c (read_int sc a) (read_int sc b)
+read_lit sc (SameSets a b) = Same (read_set sc a) (read_set sc b)
+read_lit sc (SubSets a b) = Sub (read_set sc a) (read_set sc b)
+read_lit sc (Inside a b) = Member (read_int sc a) (read_set sc b)
+read_lit sc (Negation p l) = negated (read_lit sc l)
 
 -- the literals of a body in their order
-abbrev pub kept_literals : Scope → BodyTree → List Lit
-kept_literals sc b = map (kept_literal sc) (body_lits b)
+abbrev pub read_lits : Scope → BodyTree → List Lit
+read_lits sc b = map (read_lit sc) (body_lits b)
 
 -- ---- chunks
 
 -- a name alone is a term or a set by the sort of its parameter
-abbrev pub kept_arg : Scope → Sort → ArgTree → Arg
-kept_arg sc Set (TermArg (Named i)) = SetArg (set_var (var_named sc i.text))
-kept_arg sc s (TermArg t) = IntArg (kept_int sc t)
-kept_arg sc s (BracesArg p ts us) = SetArg (kept_union sc (Braces p ts ∷ us))
-kept_arg sc s (UnionArg i u us) = SetArg (kept_union sc (PartName i ∷ u ∷ us))
+abbrev pub read_arg : Scope → Sort → ArgTree → Arg
+read_arg sc Set (TermArg (Named i)) = SetArg (set_var (var_named sc i.text))
+read_arg sc s (TermArg t) = IntArg (read_int sc t)
+read_arg sc s (BracesArg p ts us) = SetArg (read_union sc (Braces p ts ∷ us))
+read_arg sc s (UnionArg i u us) = SetArg (read_union sc (PartName i ∷ u ∷ us))
 
 -- each argument by the sort of its parameter
-abbrev pub kept_args : Scope → List Sort → List ArgTree → List Arg
-kept_args sc (s ∷ ss) (x ∷ xs) = kept_arg sc s x ∷ kept_args sc ss xs
-kept_args sc _ _ = []
+abbrev pub read_args : Scope → List Sort → List ArgTree → List Arg
+read_args sc (s ∷ ss) (x ∷ xs) = read_arg sc s x ∷ read_args sc ss xs
+read_args sc _ _ = []
 
 -- an instance has no cardinality yet, and tag 0
-abbrev pub kept_chunk : List PredTree → Scope → ChunkTree → Chunk
-kept_chunk qs sc (NamedCell i t) = Cell (record { at = var_term (var_named sc i.text); content = kept_int sc t })
-kept_chunk qs sc (TermCell a t) = Cell (record { at = kept_int sc a; content = kept_int sc t })
-kept_chunk qs sc (BlockOf a p n) = Block (record { at = kept_int sc a; size = n })
-kept_chunk qs sc (InstanceOf i xs) = Inst (record { pred = pred_place i.text qs; args = kept_args sc (arg_sorts qs i xs) xs; card = None; tag = 0 })
+abbrev pub read_chunk : List PredTree → Scope → ChunkTree → Chunk
+read_chunk qs sc (NamedCell i t) = Cell (record { at = var_term (var_named sc i.text); content = read_int sc t })
+read_chunk qs sc (TermCell a t) = Cell (record { at = read_int sc a; content = read_int sc t })
+read_chunk qs sc (BlockOf a p n) = Block (record { at = read_int sc a; size = n })
+read_chunk qs sc (InstanceOf i xs) = Inst (record { pred = pred_place i.text qs; args = read_args sc (arg_sorts qs i xs) xs; card = None; tag = 0 })
 
 -- the chunks of a body: instances before blocks before cells
-abbrev pub kept_chunks : List PredTree → Scope → BodyTree → List Chunk
-kept_chunks qs sc b = map (kept_chunk qs sc) (in_kinds b.chunks)
+abbrev pub read_chunks : List PredTree → Scope → BodyTree → List Chunk
+read_chunks qs sc b = map (read_chunk qs sc) (in_kinds b.chunks)
