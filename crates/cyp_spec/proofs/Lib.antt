@@ -5,6 +5,7 @@ pub mod Unique
 pub mod NamesAllowed
 pub mod Spoils
 pub mod Exists
+pub mod Names
 pub mod Parser
 pub mod ExampleForms
 pub mod ExamplesRead
