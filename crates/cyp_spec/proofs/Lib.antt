@@ -6,6 +6,7 @@ pub mod NamesAllowed
 pub mod Spoils
 pub mod Exists
 pub mod Names
+pub mod Scopes
 pub mod Parser
 pub mod ExampleForms
 pub mod ExamplesRead
