@@ -7,6 +7,7 @@ pub mod Spoils
 pub mod Exists
 pub mod Names
 pub mod Scopes
+pub mod Distinct
 pub mod Parser
 pub mod ExampleForms
 pub mod ExamplesRead

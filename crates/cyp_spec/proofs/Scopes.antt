@@ -95,3 +95,48 @@ sort_again xs y ys a e = let f = some_out (same_name y) xs e in at_first xs f.0 
     at_first [] x m n = absurd m
     at_first (z ∷ zs) x (inl s) n = by_name z zs (n ∙ ap (λ (u : Use). u.name.text) s) (bytes_eq z.name.text a) refl
     at_first (z ∷ zs) x (inr m) n = sort_cons z _ _ a (at_first zs x m n)
+
+has_grown : (xs ys zs : Scope) (more : Scope) → zs ≡ xs ++ more → (a : List ℕ) → Has xs a → Has zs a
+has_grown xs ys zs more e a h = subst (λ (us : Scope). Has us a) (sym e) (has_left xs more a h)
+
+grow_by : (xs : Scope) (y : Use) (ys : Scope) (t : Bool) → list_any (same_name y) xs ≡ t → Grows xs ys (with_all_new same_name xs ys) → Grows (xs ++ y ∷ []) ys (with_all_new same_name (xs ++ y ∷ []) ys)
+    → Grows xs (y ∷ ys) (with_all_new same_name (cond t xs (xs ++ y ∷ [])) ys)
+grow_by xs y ys true e g h = record {
+  more = g.more;
+  parts = g.parts;
+  new_there = there;
+  sorts = λ a. g.sorts a ∙ sort_again xs y ys a e;
+  only = λ u m. inr (g.only u m);
+}
+  where
+    there : (u : Use) → Among u (y ∷ ys) → Has (with_all_new same_name xs ys) u.name.text
+    there u (inr m) = g.new_there u m
+    there u (inl s) =
+        let f = some_out (same_name y) xs e in
+        let same : f.0.name.text ≡ u.name.text = sym (same_names y.name.text f.0.name.text f.2) ∙ ap (λ (w : Use). w.name.text) (sym s) in
+        has_grown xs ys _ g.more g.parts u.name.text (f.0, f.1, same)
+grow_by xs y ys false e h g = record {
+  more = y ∷ g.more;
+  parts = g.parts ∙ append_assoc xs (y ∷ []) g.more;
+  new_there = there;
+  sorts = λ a. g.sorts a ∙ ap (λ (zs : Scope). sort_in zs a) (append_assoc xs (y ∷ []) ys);
+  only = whose;
+}
+  where
+    there : (u : Use) → Among u (y ∷ ys) → Has (with_all_new same_name (xs ++ y ∷ []) ys) u.name.text
+    there u (inr m) = g.new_there u m
+    there u (inl s) = has_grown (xs ++ y ∷ []) ys _ g.more g.parts u.name.text (y, Among-right y xs (y ∷ []) (inl refl), ap (λ (w : Use). w.name.text) (sym s))
+
+    whose : (u : Use) → Among u (y ∷ g.more) → Among u (y ∷ ys)
+    whose u (inl s) = inl s
+    whose u (inr m) = inr (g.only u m)
+
+pub grow : (xs ys : Scope) → Grows xs ys (with_all_new same_name xs ys)
+grow xs [] = record {
+  more = [];
+  parts = sym (append-nil xs);
+  new_there = λ u m. absurd m;
+  sorts = λ a. ap (λ (zs : Scope). sort_in zs a) (sym (append-nil xs));
+  only = λ u m. m;
+}
+grow xs (y ∷ ys) = grow_by xs y ys (list_any (same_name y) xs) refl (grow xs ys) (grow (xs ++ y ∷ []) ys)
