@@ -23,3 +23,4 @@ pub mod ExamplesRead
 pub mod ExamplesRefused
 pub mod ExamplesGrammar
 pub mod ExamplesPrinted
+pub mod Decided
