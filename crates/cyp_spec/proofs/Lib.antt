@@ -8,6 +8,8 @@ pub mod Exists
 pub mod Names
 pub mod Scopes
 pub mod Distinct
+pub mod PlainSorts
+pub mod FormedCards
 pub mod Parser
 pub mod ExampleForms
 pub mod ExamplesRead
