@@ -10,6 +10,7 @@ pub mod Scopes
 pub mod Distinct
 pub mod PlainSorts
 pub mod FormedCards
+pub mod FormedInstances
 pub mod Parser
 pub mod ExampleForms
 pub mod ExamplesRead
