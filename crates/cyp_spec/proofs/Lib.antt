@@ -11,6 +11,7 @@ pub mod Distinct
 pub mod PlainSorts
 pub mod FormedCards
 pub mod FormedInstances
+pub mod FormedScope
 pub mod Parser
 pub mod ExampleForms
 pub mod ExamplesRead
