@@ -12,6 +12,7 @@ pub mod PlainSorts
 pub mod FormedCards
 pub mod FormedInstances
 pub mod FormedScope
+pub mod FormedGoals
 pub mod Parser
 pub mod ExampleForms
 pub mod ExamplesRead
