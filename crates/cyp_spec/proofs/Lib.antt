@@ -13,6 +13,7 @@ pub mod FormedCards
 pub mod FormedInstances
 pub mod FormedScope
 pub mod FormedGoals
+pub mod ReadGoals
 pub mod Parser
 pub mod ExampleForms
 pub mod ExamplesRead

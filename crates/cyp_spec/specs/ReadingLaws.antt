@@ -1,6 +1,8 @@
 -- Laws of the reading of texts.
-use Rattle.std.specs.Prelude.{Err, List, Ok, Result, ℕ, ◌≡◌}
+use Rattle.std.specs.Prelude.{Err, IsTrue, List, Ok, Result, ℕ, ◌≡◌}
+use Rattle.cyp_heap.specs.Formed.{IsFormed}
 use Rattle.cyp_lex.specs.declared.fault.Fault.{Fault}
+use Rattle.cyp_spec.specs.LimitFaults.{is_root_within}
 use Rattle.cyp_spec.specs.Reading.{IsReading}
 use Rattle.cyp_spec.specs.Specifications.{Specification}
 
@@ -15,3 +17,7 @@ ReadNotRefused = (bytes : List ℕ) (s : Specification) (f : Fault) → IsReadin
 -- a text has a reading
 abbrev pub SomeReading : Type 0
 SomeReading = (bytes : List ℕ) → (r : Result Specification Fault) × IsReading bytes r
+
+-- a specification that is read has a formed goal, which is within the limits as it is written and in its normal form
+abbrev pub ReadIsFormed : Type 0
+ReadIsFormed = (bytes : List ℕ) (s : Specification) → IsReading bytes (Ok s) → IsFormed s.preds s.goal × IsTrue (is_root_within s)
