@@ -1,15 +1,14 @@
 -- Names that differ, and that their variables do.
-use Rattle.std.proofs.Common.{List, [], ap, cond, false, inl, inr, map, not, refl, sym, true, ◌&&◌, ◌++◌, ◌∙◌, ◌∷◌, ◌≡◌, ◌≢◌, ◌⊎◌}
+use Rattle.std.proofs.Common.{List, [], ap, cond, false, inl, inr, map, not, refl, sym, true, ◌++◌, ◌∙◌, ◌∷◌, ◌≡◌, ◌≢◌}
 use Rattle.std.specs.Prelude.{Bool}
 use Rattle.std.specs.List.{list_any}
-use Rattle.std.specs.Str.{bytes_eq}
 use Rattle.std.proofs.lemmas.Bool.{and_from}
 use Rattle.std.proofs.lemmas.Slice.Eq.{bytes_eq-Decides}
 use Rattle.cyp_heap.specs.Formed.{all_differ}
-use Rattle.cyp_term.specs.Terms.{var_eq, var_in, with_all_new, with_new}
+use Rattle.cyp_term.specs.Terms.{var_eq, var_in, with_all_new}
 use Rattle.cyp_term.specs.declared.term.Var.{Var}
 use Rattle.cyp_term.proofs.Equality.{Decides-var_eq}
-use Rattle.cyp_term.proofs.Lists.{Among, Among-cases, Among-left, Among-right, map_from, some_from, some_out}
+use Rattle.cyp_term.proofs.Lists.{Among, Among-cases, Among-right, map_from, some_from, some_out}
 use Rattle.cyp_spec.specs.ReadTerms.{Scope, use_var}
 use Rattle.cyp_spec.specs.Uses.{Use, same_name}
 use Rattle.cyp_spec.proofs.Scopes.{Has, vars_differ}

@@ -1,5 +1,5 @@
 -- Cardinalities in goals that are read.
-use Rattle.std.proofs.Common.{List, None, Option, Some, [], ap, arith, false, filter, flat_map, inl, inr, map, not, refl, suc, sym, true, ℕ, ◌&&◌, ◌++◌, ◌<◌, ◌≤◌, ◌∙◌, ◌∷◌, ◌≡◌, ◌≢◌, ◌⊎◌}
+use Rattle.std.proofs.Common.{List, [], ap, arith, flat_map, inl, inr, map, not, refl, suc, true, ℕ, ◌&&◌, ◌++◌, ◌≤◌, ◌∷◌, ◌≡◌, ◌≢◌, ◌⊎◌}
 use Rattle.std.specs.Prelude.{Bool, is_none}
 use Rattle.std.specs.List.{list_all}
 use Rattle.std.proofs.lemmas.Bool.{and_from}

@@ -1,30 +1,25 @@
 -- Each goal that is read is formed.
-use Rattle.std.proofs.Common.{Err, List, None, Ok, Option, Result, Some, [], ap, false, filter, flat_map, inl, inr, length, map, not, refl, subst, sym, true, ℕ, ◌&&◌, ◌++◌, ◌∙◌, ◌∷◌, ◌≡◌, ◌≢◌, ◌⊎◌}
-use Rattle.std.specs.Prelude.{Bool, drop, nat_le}
+use Rattle.std.proofs.Common.{List, [], ap, false, filter, flat_map, inl, inr, length, map, not, refl, subst, sym, true, ◌++◌, ◌∙◌, ◌∷◌, ◌≡◌, ◌≢◌, ◌⊎◌}
+use Rattle.std.specs.Prelude.{Bool, drop}
 use Rattle.std.specs.List.{list_all}
 use Rattle.std.proofs.lemmas.Bool.{and_from}
 use Rattle.std.proofs.lemmas.Grind.{flat_map-append}
 use Rattle.std.proofs.lemmas.List.Folds.{list_all-append}
-use Rattle.cyp_grammar.specs.Lexemes.{Lexeme, lexeme_of}
 use Rattle.cyp_heap.specs.Chunks.{chunks_vars, insts}
-use Rattle.cyp_heap.specs.Formed.{IsFormed, all_differ, inst_fits, stray_cards, term_part_vars}
+use Rattle.cyp_heap.specs.Formed.{IsFormed, all_differ, inst_fits, term_part_vars}
 use Rattle.cyp_heap.specs.declared.chunk.Chunk.{Chunk}
 use Rattle.cyp_heap.specs.declared.chunk.InstOf.{InstOf}
-use Rattle.cyp_lex.specs.Lexing.{tokens_of}
 use Rattle.cyp_lex.specs.declared.fault.Fault.{Fault}
-use Rattle.cyp_lex.specs.declared.token.Token.{Token}
 use Rattle.cyp_term.specs.Terms.{lits_vars, sort_eq, var_in}
 use Rattle.cyp_term.specs.declared.term.Sort.TheVariants.{Card, Int}
 use Rattle.cyp_term.specs.declared.term.Var.{Var}
 use Rattle.cyp_term.proofs.Equality.{Decides-sort_eq}
-use Rattle.cyp_term.proofs.Lists.{Among, Among-cases, Among-left, Among-map, Among-right, each_from, filter_out, map_from}
+use Rattle.cyp_term.proofs.Lists.{Among, Among-cases, Among-left, Among-right, each_from, map_from}
 use Rattle.cyp_spec.specs.Bodies.{body_uses, in_kinds, kept_body}
 use Rattle.cyp_spec.specs.NameFaults.{chunk_faults, name_faults, param_names, pred_faults, proc_faults, repeats, set_param_fault, sort_faults}
-use Rattle.cyp_spec.specs.ReadTerms.{Scope, read_chunks, read_lits, sort_in, use_var}
-use Rattle.cyp_spec.specs.Reading.{IsReadBy, IsReadFrom, IsReading, IsReadingOf, judge, least_fault, unless_fault}
-use Rattle.cyp_spec.specs.LimitFaults.{limit_faults}
-use Rattle.cyp_spec.specs.Specifications.{Specification, goal_scope, read_goal, read_preds, read_tree, universal_scope, with_cards}
-use Rattle.cyp_spec.specs.Trees.{ChunkTree, ParamTree, PredTree, TextTree}
+use Rattle.cyp_spec.specs.ReadTerms.{Scope, read_chunks, read_lits, use_var}
+use Rattle.cyp_spec.specs.Specifications.{goal_scope, read_goal, read_preds, universal_scope, with_cards}
+use Rattle.cyp_spec.specs.Trees.{ChunkTree, PredTree, TextTree}
 use Rattle.cyp_spec.specs.Uses.{Use, param_uses}
 use Rattle.cyp_spec.proofs.Distinct.{differ_mapped, distinct_apart, distinct_right, not_in}
 use Rattle.cyp_spec.proofs.FormedCards.{all_cards, cards_differ, fits_with_cards, no_cards, part_or_card, parts_with_cards}
@@ -79,7 +74,7 @@ module _ (t : TextTree) (none : name_faults t ≡ []) where
   apart_last u m w c e =
       let h = has_first t c.0 c.1 in
       let differ : u.name.text ≢ c.0.name.text =
-          λ same. distinct_apart (universal_scope t) (goal_grows t).more (goal_distinct t) h.0 u h.1 m (h.2 ∙ sym same) in
+      λ same. distinct_apart (universal_scope t) (goal_grows t).more (goal_distinct t) h.0 u h.1 m (h.2 ∙ sym same) in
       vars_differ sc u.name.text c.0.name.text (has_last t u m) (has_goal t c.0.name.text h) differ (e ∙ c.2)
 
   -- ---- the parts of the goal

@@ -1,5 +1,5 @@
 -- Instances of a text without faults of names and sorts fit their predicates.
-use Rattle.std.proofs.Common.{List, None, Option, Some, [], ap, arith, false, filter, flat_map, inl, inr, length, map, refl, suc, sym, true, zero, ℕ, ◌&&◌, ◌++◌, ◌∙◌, ◌∷◌, ◌≡◌, ◌≢◌, ◌⊎◌}
+use Rattle.std.proofs.Common.{List, None, Option, Some, [], ap, arith, false, filter, flat_map, inl, inr, length, map, refl, suc, sym, true, ℕ, ◌++◌, ◌∙◌, ◌∷◌, ◌≡◌, ◌≢◌}
 use Rattle.std.specs.Prelude.{Bool, cond, slice_get, ◌==◌}
 use Rattle.std.specs.List.{list_all}
 use Rattle.std.specs.Str.{bytes_eq}
@@ -8,19 +8,16 @@ use Rattle.cyp_grammar.specs.Spelling.{Ident}
 use Rattle.cyp_heap.specs.Chunks.{insts}
 use Rattle.cyp_heap.specs.Formed.{arg_sort, fits_pred, inst_fits, sorts_fit}
 use Rattle.cyp_heap.specs.declared.chunk.InstOf.{InstOf}
-use Rattle.cyp_heap.specs.declared.pred.Pred.{Pred}
-use Rattle.cyp_lex.specs.declared.fault.Fault.{Fault}
 use Rattle.cyp_lex.specs.declared.fault.FaultKind.TheVariants.{WrongArity}
 use Rattle.cyp_term.specs.Terms.{sort_eq}
 use Rattle.cyp_term.specs.declared.term.Sort.{Sort}
 use Rattle.cyp_term.specs.declared.term.Sort.TheVariants.{Card, Int, Set}
-use Rattle.cyp_term.proofs.Equality.{Decides-sort_eq}
-use Rattle.cyp_term.proofs.Lists.{Among, Among-cases, Among-left, Among-right, filter_out, map_from}
+use Rattle.cyp_term.proofs.Lists.{Among, Among-cases, filter_out, map_from}
 use Rattle.cyp_spec.specs.Bodies.{in_kinds, is_block, is_cell, is_instance}
 use Rattle.cyp_spec.specs.NameFaults.{arg_fault, arg_faults, chunk_faults, fault_at, instance_fault}
 use Rattle.cyp_spec.specs.ReadTerms.{Scope, read_arg, read_args, read_chunk}
 use Rattle.cyp_spec.specs.Specifications.{read_pred, read_preds}
-use Rattle.cyp_spec.specs.Trees.{ArgTree, BlockOf, BracesArg, ChunkTree, InstanceOf, MinusNum, NameMinus, NamePlus, Named, NamedCell, Num, NumPlus, ParamTree, PredTree, TermArg, TermCell, UnionArg}
+use Rattle.cyp_spec.specs.Trees.{ArgTree, BlockOf, BracesArg, ChunkTree, InstanceOf, MinusNum, NameMinus, NamePlus, Named, NamedCell, Num, NumPlus, PredTree, TermArg, TermCell, UnionArg}
 use Rattle.cyp_spec.specs.Uses.{arg_sorts, param_sort, pred_named, pred_place, sorts_of}
 use Rattle.cyp_spec.proofs.PlainSorts.{param_plain}
 

@@ -1,25 +1,22 @@
 -- The scope of the procedure of a text without faults of names and sorts.
-use Rattle.std.proofs.Common.{List, [], ap, cond, false, flat_map, inl, inr, length, map, refl, subst, sym, true, ℕ, ◌++◌, ◌∙◌, ◌∷◌, ◌≡◌, ◌≢◌, ◌⊎◌}
+use Rattle.std.proofs.Common.{List, [], ap, cond, false, flat_map, inl, inr, length, refl, subst, sym, true, ℕ, ◌++◌, ◌∙◌, ◌∷◌, ◌≡◌, ◌≢◌}
 use Rattle.std.specs.Prelude.{Bool, drop}
 use Rattle.std.specs.List.{list_any}
 use Rattle.std.specs.Str.{bytes_eq}
 use Rattle.std.proofs.Math.Seq.{drop-append_seam}
 use Rattle.std.proofs.lemmas.Slice.Eq.{bytes_eq-Decides}
 use Rattle.cyp_grammar.specs.Spelling.{Ident}
-use Rattle.cyp_lex.specs.declared.fault.Fault.{Fault}
 use Rattle.cyp_lex.specs.declared.fault.FaultKind.TheVariants.{DuplicateName}
-use Rattle.cyp_term.specs.Terms.{with_all_new}
 use Rattle.cyp_term.specs.declared.term.Sort.TheVariants.{Int}
 use Rattle.cyp_term.proofs.Lists.{Among, Among-cases, Among-left, Among-map, Among-right, map_from, some_from}
 use Rattle.cyp_spec.specs.Bodies.{kept_body}
-use Rattle.cyp_spec.specs.NameFaults.{chunk_faults, fault_at, name_faults, param_names, pred_faults, proc_faults, repeats, set_param_fault, sort_faults}
-use Rattle.cyp_spec.specs.Bodies.{body_uses}
-use Rattle.cyp_spec.specs.ReadTerms.{Scope, sort_in, use_var}
+use Rattle.cyp_spec.specs.NameFaults.{fault_at, param_names, repeats, set_param_fault}
+use Rattle.cyp_spec.specs.ReadTerms.{Scope, sort_in}
 use Rattle.cyp_spec.specs.Specifications.{goal_scope, universal_scope}
-use Rattle.cyp_spec.specs.Trees.{ChunkTree, IntSort, LocSort, ParamTree, PredTree, SetSort, SortTree, TextTree}
-use Rattle.cyp_spec.specs.Uses.{Use, param_sort, param_uses, same_name, sort_of}
+use Rattle.cyp_spec.specs.Trees.{IntSort, LocSort, ParamTree, SetSort, SortTree, TextTree}
+use Rattle.cyp_spec.specs.Uses.{Use, param_sort, param_uses, sort_of}
 use Rattle.cyp_spec.proofs.Distinct.{Distinct, distinct_all}
-use Rattle.cyp_spec.proofs.FormedInstances.{none_both, none_each, test_true}
+use Rattle.cyp_spec.proofs.FormedInstances.{none_both, none_each}
 use Rattle.cyp_spec.proofs.PlainSorts.{ArePlain, body_plain, params_plain, plain_both}
 use Rattle.cyp_spec.proofs.Scopes.{Grows, Has, grow, has_grown, has_later}
 

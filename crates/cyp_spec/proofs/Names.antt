@@ -1,10 +1,8 @@
 -- Each variable of what is read is that of a name in the order in which it is kept.
-use Rattle.std.proofs.Common.{List, None, Some, [], false, filter, flat_map, inl, inr, map, not, refl, true, ◌++◌, ◌∷◌, ◌≡◌}
+use Rattle.std.proofs.Common.{List, Some, [], false, filter, flat_map, inl, inr, map, not, refl, true, ◌++◌, ◌∷◌, ◌≡◌}
 use Rattle.std.specs.Prelude.{Bool, cond, ℕ}
 use Rattle.cyp_heap.specs.Chunks.{arg_vars}
 use Rattle.cyp_heap.specs.Formed.{term_part_vars}
-use Rattle.cyp_heap.specs.declared.chunk.Arg.{Arg}
-use Rattle.cyp_heap.specs.declared.chunk.Arg.TheVariants.{Int as IntArg, Set as SetArg}
 use Rattle.cyp_term.specs.Terms.{lit_vars, lits_vars, negated, set_vars, term_eq, term_vars, var_eq}
 use Rattle.cyp_term.specs.declared.lit.Lit.{Lit}
 use Rattle.cyp_term.specs.declared.lit.Lit.TheVariants.{Eq, Le, Lt, Member, Ne, NotMember, NotSame, NotSub, Same, Sub}

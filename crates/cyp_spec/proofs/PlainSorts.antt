@@ -1,5 +1,5 @@
 -- No name of a text stands for a cardinality.
-use Rattle.std.proofs.Common.{List, None, Option, Some, [], ap, false, filter, flat_map, inl, inr, map, not, refl, subst, sym, true, ◌++◌, ◌∙◌, ◌∷◌, ◌≡◌, ◌≢◌, ◌⊎◌}
+use Rattle.std.proofs.Common.{List, None, Option, Some, [], ap, false, filter, flat_map, inl, inr, map, not, refl, sym, true, ◌++◌, ◌∙◌, ◌∷◌, ◌≡◌, ◌≢◌}
 use Rattle.std.specs.Prelude.{Bool, cond, length, ◌==◌, ℕ}
 use Rattle.std.specs.Str.{bytes_eq}
 use Rattle.cyp_grammar.specs.Spelling.{Ident}

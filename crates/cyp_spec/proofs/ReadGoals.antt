@@ -1,5 +1,5 @@
 -- A specification that is read is what a tree without faults says.
-use Rattle.std.proofs.Common.{Err, List, None, Ok, Option, Result, Some, [], ap, false, inl, inr, length, map, refl, subst, sym, true, ℕ, ◌++◌, ◌∙◌, ◌∷◌, ◌≡◌, ◌⊎◌}
+use Rattle.std.proofs.Common.{Err, List, None, Ok, Option, Result, Some, [], false, inl, inr, length, map, refl, subst, true, ℕ, ◌∷◌, ◌≡◌}
 use Rattle.std.specs.Prelude.{Bool, IsTrue, cond, nat_le}
 use Rattle.cyp_grammar.specs.Lexemes.{Lexeme, lexeme_of}
 use Rattle.cyp_heap.specs.Formed.{IsFormed}
@@ -9,7 +9,7 @@ use Rattle.cyp_lex.specs.declared.fault.FaultKind.TheVariants.{TooLarge}
 use Rattle.cyp_lex.specs.declared.token.Token.{Token}
 use Rattle.cyp_spec.specs.LimitFaults.{is_root_within, limit_faults}
 use Rattle.cyp_spec.specs.NameFaults.{fault_at, name_faults}
-use Rattle.cyp_spec.specs.Reading.{IsReadBy, IsReadFrom, IsReading, IsReadingOf, judge, least_fault, unless_fault}
+use Rattle.cyp_spec.specs.Reading.{IsReadBy, IsReadFrom, IsReading, IsReadingOf, least_fault, unless_fault}
 use Rattle.cyp_spec.specs.ReadingLaws.{ReadIsFormed}
 use Rattle.cyp_spec.specs.Specifications.{Specification, read_tree}
 use Rattle.cyp_spec.specs.Trees.{TextTree}

@@ -1,16 +1,15 @@
 -- Different names of a scope are different variables.
-use Rattle.std.proofs.Common.{List, [], append_assoc, append-nil, ap, arith, cond, false, inl, inr, refl, subst, sym, true, ℕ, ◌+◌, ◌++◌, ◌∙◌, ◌∷◌, ◌≡◌, ◌≢◌, ◌⊎◌}
+use Rattle.std.proofs.Common.{List, [], append_assoc, append-nil, ap, arith, cond, false, inl, inr, refl, subst, sym, true, ℕ, ◌+◌, ◌++◌, ◌∙◌, ◌∷◌, ◌≡◌, ◌≢◌}
 use Rattle.std.specs.Prelude.{Bool}
 use Rattle.std.specs.List.{list_any}
 use Rattle.std.specs.Str.{bytes_eq}
 use Rattle.std.proofs.lemmas.Slice.Eq.{bytes_eq-Decides}
-use Rattle.cyp_term.specs.Terms.{sort_eq, var_eq, with_all_new, with_new}
+use Rattle.cyp_term.specs.Terms.{sort_eq, with_all_new}
 use Rattle.cyp_term.specs.declared.term.Sort.{Sort}
-use Rattle.cyp_term.specs.declared.term.Sort.TheVariants.{Card, Int, Set}
 use Rattle.cyp_term.specs.declared.term.Var.{Var}
 use Rattle.cyp_term.proofs.Equality.{Decides-sort_eq}
-use Rattle.cyp_term.proofs.Lists.{Among, Among-cases, Among-left, Among-right, some_from, some_out}
-use Rattle.cyp_spec.specs.ReadTerms.{Scope, rank_of, sort_in, use_var, var_named}
+use Rattle.cyp_term.proofs.Lists.{Among, Among-left, Among-right, some_out}
+use Rattle.cyp_spec.specs.ReadTerms.{Scope, rank_of, sort_in, var_named}
 use Rattle.cyp_spec.specs.Uses.{Use, same_name}
 
 -- the name is that of one of these
