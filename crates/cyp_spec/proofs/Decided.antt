@@ -6,12 +6,12 @@ use Rattle.cyp_grammar.specs.Readers.{AName, NoName, Stop, Want}
 use Rattle.cyp_grammar.specs.Stops.{IsReading, IsStop, whole_of}
 use Rattle.cyp_grammar.proofs.Wholes.{spelled_once, whole_reads}
 use Rattle.cyp_spec.specs.Grammar.{text_spelling}
+use Rattle.cyp_spec.specs.ReadingLaws.{OneTree}
 use Rattle.cyp_spec.specs.TextReaders.{text_at}
 use Rattle.cyp_spec.specs.Trees.{TextTree}
 use Rattle.cyp_spec.specs.GrammarFaults.{AllowsName, name_at}
 use Rattle.cyp_spec.proofs.NamesAllowed.{AllowsNone, IsNoMore, Parsed, Stops}
 use Rattle.cyp_spec.proofs.TextLaws.{text_reads}
-use Rattle.cyp_spec.proofs.Unique.{OneTree}
 
 reading : (ls : List Lexeme) → IsReading text_spelling ls (whole_of text_at ls)
 reading ls = whole_reads text_reads ls

@@ -24,7 +24,7 @@ same_names a b e = (bytes_eq-Decides a b).0 e
 other_names : (a b : List ℕ) → bytes_eq a b ≡ false → a ≢ b
 other_names a b e same = let yes : bytes_eq a b ≡ true = (bytes_eq-Decides a b).1 same in absurd cc
 
-has_later : (u : Use) (us : Scope) (a : List ℕ) → bytes_eq u.name.text a ≡ false → Has (u ∷ us) a → Has us a
+pub has_later : (u : Use) (us : Scope) (a : List ℕ) → bytes_eq u.name.text a ≡ false → Has (u ∷ us) a → Has us a
 has_later u us a e (w, inl same, n) = absurd (other_names u.name.text a e (ap (λ (x : Use). x.name.text) (sym same) ∙ n))
 has_later u us a e (w, inr more, n) = (w, more, n)
 
@@ -95,7 +95,7 @@ sort_again xs y ys a e = let f = some_out (same_name y) xs e in at_first xs f.0 
     at_first (z ∷ zs) x (inl s) n = by_name z zs (n ∙ ap (λ (u : Use). u.name.text) s) (bytes_eq z.name.text a) refl
     at_first (z ∷ zs) x (inr m) n = sort_cons z _ _ a (at_first zs x m n)
 
-has_grown : (xs ys zs : Scope) (more : Scope) → zs ≡ xs ++ more → (a : List ℕ) → Has xs a → Has zs a
+pub has_grown : (xs ys zs : Scope) (more : Scope) → zs ≡ xs ++ more → (a : List ℕ) → Has xs a → Has zs a
 has_grown xs ys zs more e a h = subst (λ (us : Scope). Has us a) (sym e) (has_left xs more a h)
 
 grow_by : (xs : Scope) (y : Use) (ys : Scope) (t : Bool) → list_any (same_name y) xs ≡ t → Grows xs ys (with_all_new same_name xs ys) → Grows (xs ++ y ∷ []) ys (with_all_new same_name (xs ++ y ∷ []) ys)
