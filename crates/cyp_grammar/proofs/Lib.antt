@@ -13,3 +13,4 @@ pub mod Seconds
 pub mod Enclosures
 pub mod Repeats
 pub mod Wholes
+pub mod Behinds

@@ -89,3 +89,11 @@ spelled_is_read sp ts (Err s) h y m = absurd (refuses h.rest h.parts h.refused)
     refuses : (rest : List Lexeme) → ts ≡ h.before ++ rest → Refused sp h.before rest → ⊥
     refuses [] e no_more = no_more y (subst (λ (v : List Lexeme). Match (sp y) v) (e ∙ append_nil h.before) m)
     refuses (t ∷ us) e no_more = no_more (y, us, subst (λ (v : List Lexeme). Match (sp y) v) (e ∙ sym (append_assoc h.before (t ∷ []) us)) m)
+
+-- what is read is spelled by one tree at most
+pub spelled_once : {A : Type 0} (sp : A → List Mark) (ts : List Lexeme) (r : Result A Stop) → IsReading sp ts r → (y z : A) → Match (sp y) ts → Match (sp z) ts → y ≡ z
+spelled_once {A} sp ts (Ok x) h y z m n = h.1 y m ∙ sym (h.1 z n)
+spelled_once {A} sp ts (Err s) h y z m n = absurd (differ (spelled_is_read sp ts (Err s) h y m))
+  where
+    differ : Err s ≡ ok_of y → ⊥
+    differ e = cc

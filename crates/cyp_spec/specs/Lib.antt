@@ -4,3 +4,15 @@ pub mod TermReaders
 pub mod LitReaders
 pub mod ChunkReaders
 pub mod BodyReaders
+pub mod TextReaders
+pub mod GrammarFaults
+pub mod Uses
+pub mod Bodies
+pub mod ReadTerms
+pub mod NameFaults
+pub mod Specifications
+pub mod LimitFaults
+pub mod Reading
+pub mod PrintedTrees
+pub mod Printing
+pub mod ReadingLaws
