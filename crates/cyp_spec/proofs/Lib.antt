@@ -20,3 +20,10 @@ pub mod ExamplesRead
 pub mod ExamplesRefused
 pub mod ExamplesGrammar
 pub mod ExamplesPrinted
+pub mod IntLaws
+pub mod SetLaws
+pub mod LitLaws
+pub mod NotLaws
+pub mod ArgLaws
+pub mod ChunkLaws
+pub mod ItemLaws

@@ -11,3 +11,7 @@ pub mod Reading
 pub mod PrintedTrees
 pub mod Printing
 pub mod ReadingLaws
+pub mod TermReaders
+pub mod LitReaders
+pub mod ChunkReaders
+pub mod BodyReaders

@@ -1,0 +1,3 @@
+pub mod LinksCards
+pub mod LinksFit
+pub mod LinksNormal
