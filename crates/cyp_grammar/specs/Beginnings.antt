@@ -14,3 +14,8 @@ IsRefusedAt spell before l = Begins spell before × (Begins spell (before ++ l �
 -- some tree's spelling begins so, and none ends here
 abbrev pub IsUnfinished : {A : Type 0} → (A → List Mark) → List Lexeme → Type 0
 IsUnfinished {A} spell ls = Begins spell ls × ((tree : A) → Match (spell tree) ls → ⊥)
+
+-- no tree's spelling begins with these lexemes and the next one, or none ends here where nothing is left
+abbrev pub Refused : {A : Type 0} → (A → List Mark) → List Lexeme → List Lexeme → Type 0
+Refused {A} spell before [] = (tree : A) → Match (spell tree) before → ⊥
+Refused spell before (l ∷ ls) = Begins spell (before ++ l ∷ []) → ⊥

@@ -1,3 +1,6 @@
 pub mod Lexemes
 pub mod Spelling
 pub mod Beginnings
+pub mod SameSigns
+pub mod Readers
+pub mod Stops

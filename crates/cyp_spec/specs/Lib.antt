@@ -1,2 +1,5 @@
 pub mod Trees
 pub mod Grammar
+pub mod TermReaders
+pub mod LitReaders
+pub mod ChunkReaders

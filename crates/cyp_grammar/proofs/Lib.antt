@@ -1,0 +1,14 @@
+pub mod SameSigns
+pub mod Spellings
+pub mod Readings
+pub mod Sequences
+pub mod Singles
+pub mod Mapped
+pub mod Options
+pub mod Choices
+pub mod Lists
+pub mod Tellers
+pub mod Firsts
+pub mod Seconds
+pub mod Enclosures
+pub mod Wholes

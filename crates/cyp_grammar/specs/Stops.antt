@@ -1,0 +1,30 @@
+-- What a reader has to give: the tree that the lexemes spell, or the first lexeme that no text of the grammar allows.
+use Rattle.std.specs.Prelude.{Err, List, Ok, Result, [], length, ◌++◌, ◌∷◌, ◌≡◌}
+use Rattle.cyp_grammar.specs.Lexemes.{Lexeme}
+use Rattle.cyp_grammar.specs.Spelling.{Mark, Match}
+use Rattle.cyp_grammar.specs.Beginnings.{Begins, Refused}
+use Rattle.cyp_grammar.specs.Readers.{AName, IsNamed, NoName, Read, Stop, ◌>>=◌}
+
+-- the stop is at the first lexeme that is refused, and says whether a name is allowed in its place
+pub record IsStop (A : Type 0) (spell : A → List Mark) (ts : List Lexeme) (s : Stop) : Type 0 where
+  pub before : List Lexeme
+  pub rest : List Lexeme
+  pub parts : ts ≡ before ++ rest
+  pub left : s.left ≡ length rest
+  pub begins : Begins spell before
+  pub refused : Refused spell before rest
+  pub names : s.want ≡ AName → (i : Lexeme) → IsNamed i → Begins spell (before ++ i ∷ [])
+  pub no_names : s.want ≡ NoName → (i : Lexeme) → IsNamed i → Begins spell (before ++ i ∷ []) → ⊥
+
+-- all of the lexemes spell this tree and no other, or there is a fault
+abbrev pub IsReading : {A : Type 0} → (A → List Mark) → List Lexeme → Result A Stop → Type 0
+IsReading {A} spell ts (Ok x) = Match (spell x) ts × ((y : A) → Match (spell y) ts → y ≡ x)
+IsReading {A} spell ts (Err s) = IsStop A spell ts s
+
+abbrev pub end_by : {A : Type 0} → A → List Lexeme → Result A Stop
+end_by x [] = Ok x
+end_by x (t ∷ us) = Err (record { want = NoName; left = length (t ∷ us) })
+
+-- reads all of the lexemes
+abbrev pub whole_of : {A : Type 0} → (List Lexeme → Read A) → List Lexeme → Result A Stop
+whole_of p ts = p ts >>= λ x. end_by x.0 x.1

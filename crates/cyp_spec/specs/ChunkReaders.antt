@@ -1,0 +1,137 @@
+-- How arguments, chunks and heaps are read.
+use Rattle.std.specs.Prelude.{Bool, List, None, Option, Some, [], ◌∷◌, ◌⊎◌, ℕ}
+use Rattle.std.proofs.Common.{inl, inr}
+use Rattle.cyp_lex.specs.declared.token.Sign.TheVariants.{Comma, LeftBrace, LeftBracket, LeftParen, Minus, PointsTo, RightBracket, RightParen, TwoPluses, TwoStars}
+use Rattle.cyp_lex.specs.declared.token.Word.TheVariants.{Emp}
+use Rattle.cyp_grammar.specs.Lexemes.{Lexeme, Said}
+use Rattle.cyp_grammar.specs.Spelling.{Ident}
+use Rattle.cyp_grammar.specs.Readers.{AName, NoName, Read, both, enclosed, first_tells, ident_token, is_name, is_number, is_sign, is_word, listing, mapped, number_token, one_of, option_after, placed_number, sign_token, word_token}
+use Rattle.cyp_spec.specs.Trees.{ArgTree, BlockOf, BracesArg, ChunkTree, InstanceOf, IntTree, MinusNum, Named, NamedCell, PartTree, TermArg, TermCell, UnionArg}
+use Rattle.cyp_spec.specs.TermReaders.{Inner, MinusTerm, NumberTerm, begins_int, begins_other, braces_at, inner_terms, int_at, is_sum, minus_term, number_term, number_tree, parts_at, sum_sign, sum_tree}
+
+-- the parts of a union behind its first
+abbrev pub MoreParts : Type 0
+MoreParts = Unit {0} × (PartTree × List PartTree)
+
+abbrev pub more_parts : List Lexeme → Read MoreParts
+more_parts ts = both (sign_token TwoPluses) parts_at ts
+
+abbrev pub BracesUnion : Type 0
+BracesUnion = (ℕ × Inner) × Option MoreParts
+
+abbrev pub braces_union : List Lexeme → Read BracesUnion
+braces_union ts = option_after (is_sign TwoPluses) braces_at more_parts ts
+
+-- what is behind a name that begins an argument
+abbrev pub ArgTail : Type 0
+ArgTail = (Bool × ℕ) ⊎ MoreParts
+
+abbrev pub is_arg_tail : Said → Bool
+is_arg_tail = one_of is_sum (is_sign TwoPluses)
+
+abbrev pub arg_tail : List Lexeme → Read ArgTail
+arg_tail ts = first_tells NoName is_sum (is_sign TwoPluses) (both sum_sign number_token) more_parts ts
+
+abbrev pub NameArg : Type 0
+NameArg = Ident × Option ArgTail
+
+abbrev pub name_arg : List Lexeme → Read NameArg
+name_arg ts = option_after is_arg_tail ident_token arg_tail ts
+
+abbrev pub OtherArg : Type 0
+OtherArg = MinusTerm ⊎ NameArg
+
+abbrev pub other_arg : List Lexeme → Read OtherArg
+other_arg ts = first_tells AName (is_sign Minus) is_name minus_term name_arg ts
+
+abbrev pub TermOrName : Type 0
+TermOrName = NumberTerm ⊎ OtherArg
+
+abbrev pub term_or_name : List Lexeme → Read TermOrName
+term_or_name ts = first_tells AName is_number begins_other number_term other_arg ts
+
+abbrev pub AnyArg : Type 0
+AnyArg = BracesUnion ⊎ TermOrName
+
+abbrev pub parts_of : Option MoreParts → List PartTree
+parts_of None = []
+parts_of (Some y) = y.1.0 ∷ y.1.1
+
+abbrev pub name_arg_tree : Ident → Option ArgTail → ArgTree
+name_arg_tree i None = TermArg (Named i)
+name_arg_tree i (Some (inl y)) = TermArg (sum_tree i y.0 y.1)
+name_arg_tree i (Some (inr y)) = UnionArg i y.1.0 y.1.1
+
+abbrev pub arg_tree : AnyArg → ArgTree
+arg_tree (inl x) = BracesArg x.0.0 (inner_terms x.0.1) (parts_of x.1)
+arg_tree (inr (inl x)) = TermArg (number_tree x.0 x.1)
+arg_tree (inr (inr (inl x))) = TermArg (MinusNum x.0 x.1)
+arg_tree (inr (inr (inr x))) = name_arg_tree x.0 x.1
+
+abbrev pub begins_arg : Said → Bool
+begins_arg = one_of (is_sign LeftBrace) begins_int
+
+abbrev pub arg_at : List Lexeme → Read ArgTree
+arg_at ts = mapped arg_tree (first_tells AName (is_sign LeftBrace) begins_int braces_union term_or_name) ts
+
+-- what is behind a name that begins a chunk
+abbrev pub ChunkTail : Type 0
+ChunkTail = (Unit {0} × IntTree) ⊎ (Unit {0} × List ArgTree)
+
+abbrev pub is_chunk_tail : Said → Bool
+is_chunk_tail = one_of (is_sign PointsTo) (is_sign LeftParen)
+
+abbrev pub args_at : List Lexeme → Read (List ArgTree)
+args_at ts = enclosed AName RightParen begins_arg arg_at ts
+
+abbrev pub chunk_tail : List Lexeme → Read ChunkTail
+chunk_tail ts = first_tells NoName (is_sign PointsTo) (is_sign LeftParen) (both (sign_token PointsTo) int_at) (both (sign_token LeftParen) args_at) ts
+
+abbrev pub TermChunk : Type 0
+TermChunk = Unit {0} × (IntTree × (Unit {0} × (Unit {0} × IntTree)))
+
+abbrev pub term_chunk : List Lexeme → Read TermChunk
+term_chunk ts = both (sign_token LeftParen) (both int_at (both (sign_token RightParen) (both (sign_token PointsTo) int_at))) ts
+
+abbrev pub BlockChunk : Type 0
+BlockChunk = Unit {0} × (IntTree × (Unit {0} × ((ℕ × ℕ) × Unit {0})))
+
+abbrev pub block_chunk : List Lexeme → Read BlockChunk
+block_chunk ts = both (sign_token LeftBracket) (both int_at (both (sign_token Comma) (both placed_number (sign_token RightBracket)))) ts
+
+abbrev pub AnyChunk : Type 0
+AnyChunk = (Ident × ChunkTail) ⊎ (TermChunk ⊎ BlockChunk)
+
+abbrev pub name_chunk_tree : Ident → ChunkTail → ChunkTree
+name_chunk_tree i (inl x) = NamedCell i x.1
+name_chunk_tree i (inr x) = InstanceOf i x.1
+
+abbrev pub chunk_tree : AnyChunk → ChunkTree
+chunk_tree (inl x) = name_chunk_tree x.0 x.1
+chunk_tree (inr (inl x)) = TermCell x.1.0 x.1.1.1.1
+chunk_tree (inr (inr x)) = BlockOf x.1.0 x.1.1.1.0.0 x.1.1.1.0.1
+
+abbrev pub begins_shape : Said → Bool
+begins_shape = one_of (is_sign LeftParen) (is_sign LeftBracket)
+
+abbrev pub begins_chunk : Said → Bool
+begins_chunk = one_of is_name begins_shape
+
+abbrev pub shape_chunk : List Lexeme → Read (TermChunk ⊎ BlockChunk)
+shape_chunk ts = first_tells NoName (is_sign LeftParen) (is_sign LeftBracket) term_chunk block_chunk ts
+
+abbrev pub chunk_at : List Lexeme → Read ChunkTree
+chunk_at ts = mapped chunk_tree (first_tells AName is_name begins_shape (both ident_token chunk_tail) shape_chunk) ts
+
+abbrev pub begins_heap : Said → Bool
+begins_heap = one_of (is_word Emp) begins_chunk
+
+abbrev pub chunks_at : List Lexeme → Read (ChunkTree × List ChunkTree)
+chunks_at = listing (is_sign TwoStars) (sign_token TwoStars) chunk_at
+
+abbrev pub heap_tree : Unit {0} ⊎ (ChunkTree × List ChunkTree) → List ChunkTree
+heap_tree (inl u) = []
+heap_tree (inr x) = x.0 ∷ x.1
+
+abbrev pub heap_at : List Lexeme → Read (List ChunkTree)
+heap_at ts = mapped heap_tree (first_tells AName (is_word Emp) begins_chunk (word_token Emp) chunks_at) ts
