@@ -100,12 +100,18 @@ stmt_first (CallStmt i es) K l ls h = ap begins_stmt h.0.0
 stmt_first (IfStmt a s b c d) K l ls h = ap begins_stmt h.0
 stmt_first ErrorStmt K l ls h = ap begins_stmt h.0
 
--- what is left behind an `if`'s test, and behind its first block
-abbrev pub branches : BlockTree → BlockTree → List Mark
-branches c d = sign signs.LeftBrace ∷ (stmts_spelling c ++ (sign signs.RightBrace ∷ word words.Else ∷ sign signs.LeftBrace ∷ (stmts_spelling d ++ sign signs.RightBrace ∷ [])))
+-- a block in braces, and what is left behind an `if`'s first block and behind its test
+abbrev closed_block : BlockTree → List Mark
+closed_block d = stmts_spelling d ++ sign signs.RightBrace ∷ []
 
-abbrev pub second_branch : BlockTree → List Mark
-second_branch d = word words.Else ∷ sign signs.LeftBrace ∷ (stmts_spelling d ++ sign signs.RightBrace ∷ [])
+abbrev else_marks : BlockTree → List Mark
+else_marks d = word words.Else ∷ sign signs.LeftBrace ∷ closed_block d
+
+abbrev both_blocks : BlockTree → BlockTree → List Mark
+both_blocks c d = stmts_spelling c ++ (sign signs.RightBrace ∷ else_marks d)
+
+abbrev branches : BlockTree → BlockTree → List Mark
+branches c d = sign signs.LeftBrace ∷ both_blocks c d
 
 if_is : (a : ExprTree) (s : TestSign) (b : ExprTree) (c d : BlockTree) (a' : ExprTree) (s' : TestSign) (b' : ExprTree) (c' d' : BlockTree)
     → a ≡ a' → s ≡ s' → b ≡ b' → c ≡ c' → d ≡ d' → IfStmt a s b c d ≡ IfStmt a' s' b' c' d'
@@ -154,6 +160,33 @@ call_exact i j es fs K L (l ∷ k ∷ ls) p q =
         (then_split (args_spelling es) close K ls p.1.1) (then_split (args_spelling fs) close L ls q.1.1) in
     (ap (λ u. CallStmt u es) (ident_same i j l p.0 q.0) ∙ ap (λ u. CallStmt j u) args.0, behind_marks close K L args.1.0 args.1.1 args.1.2)
 
+-- the statements of this block are told apart from those of that one, unless another follows
+abbrev pub AreTold : BlockTree → BlockTree → Type 1
+AreTold x y =
+    (K L : List Lexeme → Type 0) → Avoids begins_stmt K → Avoids begins_stmt L → (ls : List Lexeme) → Then (stmts_spelling x) K ls → Then (stmts_spelling y) L ls → (x ≡ y) × Both K L
+
+braced_by : (x y : BlockTree) → AreTold x y → (ms ns : List Mark) (K L : List Lexeme → Type 0) (ls : List Lexeme) → Then (stmts_spelling x ++ sign signs.RightBrace ∷ ms) K ls → Then (stmts_spelling y ++ sign signs.RightBrace ∷ ns) L ls
+    → (x ≡ y) × Both (Then ms K) (Then ns L)
+braced_by x y told ms ns K L ls p q =
+    let inner = told (Then (sign signs.RightBrace ∷ ms) K) (Then (sign signs.RightBrace ∷ ns) L)
+        (mark_avoids begins_stmt (Symbol signs.RightBrace) ms K refl) (mark_avoids begins_stmt (Symbol signs.RightBrace) ns L refl) ls
+        (then_split (stmts_spelling x) (sign signs.RightBrace ∷ ms) K ls p) (then_split (stmts_spelling y) (sign signs.RightBrace ∷ ns) L ls q) in
+    (inner.0, behind_mark (sign signs.RightBrace) (sign signs.RightBrace) ms ns K L inner.1.0 inner.1.1 inner.1.2)
+
+if_exact : (a : ExprTree) (s : TestSign) (b : ExprTree) (c d : BlockTree) (a' : ExprTree) (s' : TestSign) (b' : ExprTree) (c' d' : BlockTree) → AreTold c c' → AreTold d d'
+    → (K L : List Lexeme → Type 0) (ls : List Lexeme) → Then (stmt_spelling (IfStmt a s b c d)) K ls → Then (stmt_spelling (IfStmt a' s' b' c' d')) L ls
+    → (IfStmt a s b c d ≡ IfStmt a' s' b' c' d') × Both K L
+if_exact a s b c d a' s' b' c' d' told told' K L [] p q = absurd p
+if_exact a s b c d a' s' b' c' d' told told' K L (l ∷ ls) p q =
+    let test = test_exact a s b a' s' b' (Then (branches c d) K) (Then (branches c' d') L) ls
+        (then_split (test_spelling a s b) (branches c d) K ls p.1) (then_split (test_spelling a' s' b') (branches c' d') L ls q.1) in
+    let opened = behind_mark (sign signs.LeftBrace) (sign signs.LeftBrace) (both_blocks c d) (both_blocks c' d') K L test.rest.0 test.rest.1 test.rest.2 in
+    let first = braced_by c c' told (else_marks d) (else_marks d') K L opened.0 opened.1 opened.2 in
+    let other = behind_mark (word words.Else) (word words.Else) (sign signs.LeftBrace ∷ closed_block d) (sign signs.LeftBrace ∷ closed_block d') K L first.1.0 first.1.1 first.1.2 in
+    let opened' = behind_mark (sign signs.LeftBrace) (sign signs.LeftBrace) (closed_block d) (closed_block d') K L other.0 other.1 other.2 in
+    let second = braced_by d d' told' [] [] K L opened'.0 opened'.1 opened'.2 in
+    (if_is a s b c d a' s' b' c' d' test.left test.comparison test.right first.0 second.0, second.1)
+
 mutual
   pub stmt_exact : (x y : StmtTree) (K L : List Lexeme → Type 0) (ls : List Lexeme) → Then (stmt_spelling x) K ls → Then (stmt_spelling y) L ls → (x ≡ y) × Both K L
   stmt_exact x y K L [] p q = absurd (no_stmt x K p)
@@ -161,15 +194,7 @@ mutual
   stmt_exact (StoreStmt x e) (StoreStmt y f) K L (l ∷ ls) p q = store_exact x y e f K L (l ∷ ls) p q
   stmt_exact (FreeStmt e) (FreeStmt f) K L (l ∷ ls) p q = free_exact e f K L (l ∷ ls) p q
   stmt_exact (CallStmt i es) (CallStmt j fs) K L (l ∷ ls) p q = call_exact i j es fs K L (l ∷ ls) p q
-  stmt_exact (IfStmt a s b c d) (IfStmt a' s' b' c' d') K L (l ∷ ls) p q =
-      let test = test_exact a s b a' s' b' (Then (branches c d) K) (Then (branches c' d') L) ls
-          (then_split (test_spelling a s b) (branches c d) K ls p.1) (then_split (test_spelling a' s' b') (branches c' d') L ls q.1) in
-      let brace = behind_mark (sign signs.LeftBrace) (sign signs.LeftBrace) _ _ K L test.rest.0 test.rest.1 test.rest.2 in
-      let first = braced_exact c c' (second_branch d) (second_branch d') K L brace.0 brace.1 brace.2 in
-      let word = behind_mark (word words.Else) (word words.Else) _ _ K L first.1.0 first.1.1 first.1.2 in
-      let brace' = behind_mark (sign signs.LeftBrace) (sign signs.LeftBrace) _ _ K L word.0 word.1 word.2 in
-      let second = braced_exact d d' [] [] K L brace'.0 brace'.1 brace'.2 in
-      (if_is a s b c d a' s' b' c' d' test.left test.comparison test.right first.0 second.0, second.1)
+  stmt_exact (IfStmt a s b c d) (IfStmt a' s' b' c' d') K L (l ∷ ls) p q = if_exact a s b c d a' s' b' c' d' (stmts_exact c c') (stmts_exact d d') K L (l ∷ ls) p q
   stmt_exact ErrorStmt ErrorStmt K L (l ∷ []) p q = absurd p.1
   stmt_exact ErrorStmt ErrorStmt K L (l ∷ k ∷ ls) p q = (refl, (ls, p.1.1, q.1.1))
   stmt_exact (LetStmt v x) (StoreStmt y f) K L (l ∷ ls) p q = absurd cc
@@ -204,8 +229,7 @@ mutual
   stmt_exact ErrorStmt (IfStmt a' s' b' c' d') K L (l ∷ ls) p q = absurd cc
 
   -- the statements of a block tell which they are, unless another follows
-  pub stmts_exact : (x y : BlockTree) (K L : List Lexeme → Type 0) → Avoids begins_stmt K → Avoids begins_stmt L → (ls : List Lexeme) → Then (stmts_spelling x) K ls → Then (stmts_spelling y) L ls
-      → (x ≡ y) × Both K L
+  pub stmts_exact : (x y : BlockTree) → AreTold x y
   stmts_exact NoStmts NoStmts K L a b ls p q = (refl, (ls, p, q))
   stmts_exact NoStmts (Stmts t d) K L a b [] p q = absurd (no_stmt t (Then (stmts_spelling d) L) (then_split (stmt_spelling t) (stmts_spelling d) L [] q))
   stmts_exact NoStmts (Stmts t d) K L a b (l ∷ ls) p q =
@@ -219,11 +243,7 @@ mutual
       let rest = stmts_exact c d K L a b first.1.0 first.1.1 first.1.2 in
       (ap (λ u. Stmts u c) first.0 ∙ ap (λ u. Stmts t u) rest.0, rest.1)
 
-  -- a block up to behind the brace that closes it
-  pub braced_exact : (x y : BlockTree) (ms ns : List Mark) (K L : List Lexeme → Type 0) (ls : List Lexeme) → Then (stmts_spelling x ++ sign signs.RightBrace ∷ ms) K ls → Then (stmts_spelling y ++ sign signs.RightBrace ∷ ns) L ls
-      → (x ≡ y) × Both (Then ms K) (Then ns L)
-  braced_exact x y ms ns K L ls p q =
-      let inner = stmts_exact x y (Then (sign signs.RightBrace ∷ ms) K) (Then (sign signs.RightBrace ∷ ns) L)
-          (mark_avoids begins_stmt (Symbol signs.RightBrace) ms K refl) (mark_avoids begins_stmt (Symbol signs.RightBrace) ns L refl) ls
-          (then_split (stmts_spelling x) (sign signs.RightBrace ∷ ms) K ls p) (then_split (stmts_spelling y) (sign signs.RightBrace ∷ ns) L ls q) in
-      (inner.0, behind_mark (sign signs.RightBrace) (sign signs.RightBrace) ms ns K L inner.1.0 inner.1.1 inner.1.2)
+-- a block tells which it is up to behind the brace that closes it
+pub braced_exact : (x y : BlockTree) → (ms ns : List Mark) (K L : List Lexeme → Type 0) (ls : List Lexeme) → Then (stmts_spelling x ++ sign signs.RightBrace ∷ ms) K ls → Then (stmts_spelling y ++ sign signs.RightBrace ∷ ns) L ls
+    → (x ≡ y) × Both (Then ms K) (Then ns L)
+braced_exact x y = braced_by x y (stmts_exact x y)
