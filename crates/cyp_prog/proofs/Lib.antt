@@ -1,3 +1,5 @@
 pub mod Exact
 pub mod ExprExact
 pub mod StmtExact
+pub mod ProgramExact
+pub mod GrammarFaults
