@@ -3,3 +3,5 @@ pub mod ExprExact
 pub mod StmtExact
 pub mod ProgramExact
 pub mod GrammarFaults
+pub mod Readings
+pub mod Programs

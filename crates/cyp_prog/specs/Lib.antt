@@ -9,3 +9,4 @@ pub mod Bindings
 pub mod Nesting
 pub mod Passes
 pub mod Reading
+pub mod Laws
