@@ -1,5 +1,5 @@
 -- Spellings that tell which tree they spell.
-use Rattle.std.proofs.Common.{◌≡◌, ◌≢◌, ◌++◌, ◌∙◌, Bool, List, [], ◌∷◌, ap, false, refl, sym}
+use Rattle.std.proofs.Common.{◌≡◌, ◌≢◌, ◌∙◌, Bool, List, [], ◌∷◌, ap, false, refl, sym}
 use Rattle.cyp_grammar.proofs.Readings.{Avoids}
 use Rattle.cyp_grammar.proofs.Spellings.{then_split}
 use Rattle.cyp_grammar.specs.Lexemes.{Lexeme, Said}

@@ -1,13 +1,13 @@
 -- The spelling of an expression, of a place and of what a `let` binds tells which it is.
-use Rattle.std.proofs.Common.{◌≡◌, ◌++◌, ◌∙◌, Bool, List, [], ◌∷◌, ap, false, refl, sym, true, ℕ}
+use Rattle.std.proofs.Common.{◌≡◌, ◌++◌, ◌∙◌, Bool, List, [], ◌∷◌, ap, false, refl, true, ℕ}
 use Rattle.cyp_grammar.proofs.Readings.{Avoids, none}
 use Rattle.cyp_grammar.proofs.Spellings.{then_split}
-use Rattle.cyp_grammar.specs.Lexemes.{Lexeme, Number, Said, Symbol, Variable}
+use Rattle.cyp_grammar.specs.Lexemes.{Lexeme, Said, Symbol}
 use Rattle.cyp_grammar.specs.Spelling.{Any, Fits, Mark, Then, sign}
-use Rattle.cyp_lex.specs.declared.token.Sign.TheVariants.{Comma, LeftParen, Minus, Plus, RightParen, Semicolon}
-use Rattle.cyp_prog.proofs.Exact.{BeginsApart, Both, IsExact, Opens, behind_mark, behind_marks, mark_avoids, separated_exact}
+use Rattle.cyp_lex.specs.declared.token.Sign.TheVariants.{Comma, Minus, Plus, RightParen}
+use Rattle.cyp_prog.proofs.Exact.{BeginsApart, Both, IsExact, Opens, behind_marks, mark_avoids, separated_exact}
 use Rattle.cyp_prog.specs.Grammar.{args_spelling, expr_spelling, number, place_spelling, source_spelling, variable}
-use Rattle.cyp_prog.specs.Trees.{ExprTree, FromCell, FromMalloc, MinusNum, Num, PlaceExpr, PlaceMinus, PlaceNum, PlaceTree, PlaceVar, SourceTree, Var, VarMinus, VarPlus, VarTree}
+use Rattle.cyp_prog.specs.Trees.{ExprTree, FromCell, FromMalloc, MinusNum, Num, PlaceExpr, PlaceMinus, PlaceNum, PlaceTree, PlaceVar, Var, VarMinus, VarPlus, VarTree}
 
 pub var_same : (v w : VarTree) (l : Lexeme) → Fits (variable v) l → Fits (variable w) l → v ≡ w
 var_same v w l p q =

@@ -5,3 +5,5 @@ pub mod ProgramExact
 pub mod GrammarFaults
 pub mod Readings
 pub mod Programs
+pub mod Shallow
+pub mod Examples

@@ -1,5 +1,5 @@
 -- The spelling of a program tells which it is.
-use Rattle.std.proofs.Common.{◌≡◌, ◌++◌, ◌∙◌, Bool, List, [], ◌∷◌, ap, false, refl, sym, true, ℕ}
+use Rattle.std.proofs.Common.{◌≡◌, ◌++◌, ◌∙◌, Bool, List, [], ◌∷◌, ap, false, refl, true}
 use Rattle.cyp_grammar.proofs.Readings.{Avoids, none}
 use Rattle.cyp_grammar.proofs.Spellings.{then_split}
 use Rattle.cyp_grammar.specs.Lexemes.{Lexeme, Reserved, Said, Symbol}

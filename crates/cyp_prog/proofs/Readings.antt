@@ -1,5 +1,5 @@
 -- A text has one reading at most.
-use Rattle.std.proofs.Common.{◌≡◌, ◌++◌, ◌∙◌, ◌⊎◌, Err, List, None, Ok, Result, Some, ap, inl, inr, length, refl, subst, sym, ℕ}
+use Rattle.std.proofs.Common.{◌≡◌, ◌++◌, ◌∙◌, Err, List, Ok, Result, ap, inl, inr, length, subst, sym, ℕ}
 use Rattle.cyp_grammar.specs.Lexemes.{Lexeme}
 use Rattle.cyp_grammar.specs.Spelling.{Mark, Match}
 use Rattle.cyp_lex.specs.declared.token.Token.{Token}

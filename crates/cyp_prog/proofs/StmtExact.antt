@@ -1,12 +1,12 @@
 -- The spelling of a statement and of a block tells which it is.
-use Rattle.std.proofs.Common.{◌≡◌, ◌++◌, ◌∙◌, Bool, List, [], ◌∷◌, ap, false, refl, sym, true}
+use Rattle.std.proofs.Common.{◌≡◌, ◌++◌, ◌∙◌, Bool, List, [], ◌∷◌, ap, false, refl, true}
 use Rattle.cyp_grammar.proofs.Readings.{Avoids, none}
 use Rattle.cyp_grammar.proofs.Spellings.{then_split}
 use Rattle.cyp_grammar.specs.Lexemes.{Lexeme, Name, Reserved, Said, Symbol}
-use Rattle.cyp_grammar.specs.Spelling.{Any, Fits, Ident, Mark, Then, ident, sign, word}
+use Rattle.cyp_grammar.specs.Spelling.{Fits, Ident, Mark, Then, ident, sign, word}
 use Rattle.cyp_lex.specs.declared.token.Sign.TheVariants as signs
 use Rattle.cyp_lex.specs.declared.token.Word.TheVariants as words
-use Rattle.cyp_prog.proofs.Exact.{Both, IsExact, behind_mark, behind_marks, mark_avoids, mark_opens}
+use Rattle.cyp_prog.proofs.Exact.{Both, behind_mark, behind_marks, mark_avoids, mark_opens}
 use Rattle.cyp_prog.proofs.ExprExact.{args_exact, expr_before, is_sum, place_exact, source_exact, var_same}
 use Rattle.cyp_prog.specs.Grammar.{args_spelling, expr_spelling, place_spelling, source_spelling, stmt_spelling, stmts_spelling, test_sign, test_spelling}
 use Rattle.cyp_prog.specs.Trees.{BlockTree, CallStmt, ErrorStmt, ExprTree, FreeStmt, IfStmt, LetStmt, NoStmts, PlaceTree, SourceTree, StmtTree, Stmts, StoreStmt, VarTree}
