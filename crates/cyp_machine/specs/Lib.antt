@@ -1,1 +1,2 @@
 pub mod RunInput
+pub mod RunInputLaws

@@ -50,7 +50,7 @@ more_avoids : {A : Type 0} (separator end : Said) (spell : A → List Mark) (end
 more_avoids separator end spell ends [] K s e o l ls h = opens_avoids ends end K e o l ls h
 more_avoids separator end spell ends (x ∷ xs) K s e o l ls h = ap ends h.0 ∙ s
 
-more_exact : {A : Type 0} (separator end : Said) (spell : A → List Mark) (ends : Said → Bool) → separator ≢ end → ends separator ≡ false → ends end ≡ false → IsExact ends spell
+pub more_exact : {A : Type 0} (separator end : Said) (spell : A → List Mark) (ends : Said → Bool) → separator ≢ end → ends separator ≡ false → ends end ≡ false → IsExact ends spell
     → (xs ys : List A) (K L : List Lexeme → Type 0) → Opens end K → Opens end L → (ls : List Lexeme)
     → Then (more_spelling separator spell xs) K ls → Then (more_spelling separator spell ys) L ls → (xs ≡ ys) × Both K L
 more_exact separator end spell ends differ s e exact [] [] K L o u ls p q = (refl, (ls, p, q))

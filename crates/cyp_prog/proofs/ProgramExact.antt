@@ -75,7 +75,7 @@ program_exact x y K L a b ls p q =
     let procs = procs_exact (procs_of x) (procs_of y) K L a b ls p q in
     (same_program x y procs.0, procs.1)
 
-end_avoids : (ends : Said → Bool) → Avoids ends IsEnd
+pub end_avoids : (ends : Said → Bool) → Avoids ends IsEnd
 end_avoids ends l ls k = absurd cc
 
 -- lexemes spell one program at most

@@ -1,0 +1,2 @@
+pub mod InputExact
+pub mod Inputs
