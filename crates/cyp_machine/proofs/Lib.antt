@@ -1,2 +1,3 @@
 pub mod InputExact
 pub mod Inputs
+pub mod InputExamples
