@@ -11,4 +11,6 @@ pub mod Tellers
 pub mod Firsts
 pub mod Seconds
 pub mod Enclosures
+pub mod Repeats
 pub mod Wholes
+pub mod Behinds

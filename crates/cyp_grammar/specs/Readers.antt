@@ -214,3 +214,15 @@ enclosed_list (inr y) = y.0.0 ∷ y.0.1
 -- none or more between commas up to the symbol that closes them
 abbrev pub enclosed : {A : Type 0} → Want → Sign → (Said → Bool) → (List Lexeme → Read A) → List Lexeme → Read (List A)
 enclosed want close starts p ts = mapped enclosed_list (first_tells want (is_sign close) starts (sign_token close) (both (listing (is_sign Comma) (sign_token Comma) p) (sign_token close))) ts
+
+abbrev pub repeated_tree : {A B : Type 0} → (A × (List A × B)) ⊎ B → List A × B
+repeated_tree (inl x) = (x.0 ∷ x.1.0, x.1.1)
+repeated_tree (inr b) = ([], b)
+
+-- none or more of the first, and then the second; the number is above that of the lexemes
+abbrev pub repeated : {A B : Type 0} → ℕ → Want → (Said → Bool) → (Said → Bool) → (List Lexeme → Read A) → (List Lexeme → Read B) → List Lexeme → Read (List A × B)
+repeated zero want a b p q ts = stop NoName ts
+repeated (suc n) want a b p q ts = mapped repeated_tree (first_tells want a b (both p (repeated n want a b p q)) q) ts
+
+abbrev pub repeating : {A B : Type 0} → Want → (Said → Bool) → (Said → Bool) → (List Lexeme → Read A) → (List Lexeme → Read B) → List Lexeme → Read (List A × B)
+repeating want a b p q ts = repeated (suc (length ts)) want a b p q ts

@@ -4,3 +4,6 @@ pub mod LitLaws
 pub mod NotLaws
 pub mod ArgLaws
 pub mod ChunkLaws
+pub mod ItemLaws
+pub mod BodyLaws
+pub mod TextLaws
