@@ -1,2 +1,5 @@
 pub mod Maps
 pub mod Rename
+pub mod RenameVars
+pub mod RenameTidy
+pub mod RenamePrune

@@ -60,3 +60,12 @@ lists_eq-map f eq eq' e [] [] = refl
 lists_eq-map f eq eq' e [] (y ∷ ys) = refl
 lists_eq-map f eq eq' e (x ∷ xs) [] = refl
 lists_eq-map f eq eq' e (x ∷ xs) (y ∷ ys) = ap₂ (λ a b. a && b) (e x y) (lists_eq-map f eq eq' e xs ys)
+
+-- h behind f is k behind g
+pub map_both : {A B C D : Type 0} (f : A → B) (h : B → D) (g : A → C) (k : C → D) → ((x : A) → h (f x) ≡ k (g x)) → (xs : List A) → map h (map f xs) ≡ map k (map g xs)
+map_both f h g k e [] = refl
+map_both f h g k e (x ∷ xs) = λ i. e x i ∷ map_both f h g k e xs i
+
+-- lists joined behind a map
+pub joined : {A B : Type 0} (f : A → B) (xs ys : List A) (us vs : List B) → us ≡ map f xs → vs ≡ map f ys → us ++ vs ≡ map f (xs ++ ys)
+joined f xs ys us vs e h = ap₂ ◌++◌ e h ∙ sym (map-append f xs ys)
