@@ -3,3 +3,5 @@ pub mod Rename
 pub mod RenameVars
 pub mod RenameTidy
 pub mod RenamePrune
+pub mod AllNew
+pub mod Fits
