@@ -5,3 +5,6 @@ pub mod RenameTidy
 pub mod RenamePrune
 pub mod AllNew
 pub mod Fits
+pub mod FirstSolved
+pub mod SolvedLits
+pub mod SolveLeaves
