@@ -8,3 +8,6 @@ pub mod Fits
 pub mod FirstSolved
 pub mod SolvedLits
 pub mod SolveLeaves
+pub mod LitEquality
+pub mod Added
+pub mod Live
