@@ -11,3 +11,5 @@ pub mod SolveLeaves
 pub mod LitEquality
 pub mod Added
 pub mod Live
+pub mod TidyLeaves
+pub mod PruneLeaves
