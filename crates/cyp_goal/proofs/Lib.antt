@@ -13,3 +13,7 @@ pub mod Added
 pub mod Live
 pub mod TidyLeaves
 pub mod PruneLeaves
+pub mod Ranks
+pub mod RenameFits
+pub mod RenameSelf
+pub mod Renumber
