@@ -17,3 +17,4 @@ pub mod Ranks
 pub mod RenameFits
 pub mod RenameSelf
 pub mod Renumber
+pub mod NormalOfNormal
