@@ -31,7 +31,7 @@ use Rattle.cyp_heap.specs.Goals.{node_vars}
 use Rattle.cyp_heap.specs.Limits.{is_within_limits}
 use Rattle.cyp_heap.specs.declared.goal.Goal.{Goal}
 use Rattle.cyp_heap.specs.declared.goal.Node.{Node}
-use Rattle.cyp_term.proofs.Lists.{Among, Among-cases, each_at, each_from, filter_out, flat_in, map_from}
+use Rattle.cyp_term.proofs.Lists.{Among, Among-cases, Among-map, each_at, each_from, filter_out, flat_in, map_from}
 use Rattle.cyp_term.specs.Terms.{is_set_var, lit_vars, lits_vars, sort_eq, var_in}
 use Rattle.cyp_term.specs.declared.lit.Lit.{Lit}
 use Rattle.cyp_term.specs.declared.subst.Subst.{Subst}
@@ -73,18 +73,6 @@ reduced n s raw e =
     }
 
 -- ---- solving does nothing where nothing can be solved
-
-abbrev pre_at : ℕ → Node → Option (Subst × List Lit) → Option Node
-pre_at k n o = elim o [
-  | None ↦ Some n
-  | Some p ↦ option_and_then (solve_pre k) (substitute p.0 (with_pre n p.1))
-]
-
-abbrev post_at : ℕ → Node → Option (Subst × List Lit) → Option Node
-post_at k n o = elim o [
-  | None ↦ Some n
-  | Some p ↦ option_and_then (solve_post k) (substitute p.0 (with_post n p.1))
-]
 
 pre_solved : (k : ℕ) (n : Node) → first_solved (solved_eq (is_logical n.goal)) n.goal.pure_pre ≡ None → solve_pre k n ≡ Some n
 pre_solved zero n e = refl
@@ -139,12 +127,7 @@ module _ (n : Node) (is : IsReduced n) where
   renamed_exist : (v : Var) → Among v m.goal.exist → Among v (node_vars m)
   renamed_exist v k =
       let w = map_from r v n.goal.exist k in
-      subst (Among v) (sym (node_vars-rename r renames n)) (rw w.2 (renamed_in w.0 (node_vars n) (is.exist_used w.0 w.1)))
-    where
-      renamed_in : (w : Var) (ws : List Var) → Among w ws → Among (r w) (map r ws)
-      renamed_in w [] i = absurd i
-      renamed_in w (x ∷ xs) (inl e) = inl (ap r e)
-      renamed_in w (x ∷ xs) (inr i) = inr (renamed_in w xs i)
+      subst (Among v) (sym (node_vars-rename r renames n)) (rw w.2 (Among-map r w.0 (node_vars n) (is.exist_used w.0 w.1)))
 
   renumber_numbered : renumber m ≡ m
   renumber_numbered =
