@@ -1,5 +1,5 @@
 -- The normal form of a normal form is that normal form.
-use Rattle.std.proofs.Common.{◌≡◌, ◌∙◌, [], ◌∷◌, ◌++◌, List, Option, Some, None, true, cond, ◌&&◌, not, map, length, ℕ, zero, suc, option_and_then, refl, ap, ap₂, sym, inl, inr, subst, ⊎_elim}
+use Rattle.std.proofs.Common.{◌≡◌, ◌∙◌, ◌++◌, Some, None, true, cond, ◌&&◌, not, length, ℕ, zero, suc, option_and_then, refl, ap, ap₂, sym, subst, ⊎_elim}
 use Rattle.std.specs.List.{list_all}
 use Rattle.std.specs.Option.{is_none}
 use Rattle.std.proofs.lemmas.Bool.{and_parts, both_ways, cond-true, false_from_ne_true, not-true, not_from_false}
@@ -17,14 +17,14 @@ use Rattle.cyp_goal.proofs.RenameSelf.{node_self, self}
 use Rattle.cyp_goal.proofs.RenameTidy.{tidy_node-rename}
 use Rattle.cyp_goal.proofs.RenameVars.{node_vars-rename, var_in-rename}
 use Rattle.cyp_goal.proofs.Renumber.{no_set, of_post, of_pure_post, renumber-renames}
-use Rattle.cyp_goal.proofs.SolveLeaves.{apart, solve_leaves}
+use Rattle.cyp_goal.proofs.SolveLeaves.{apart, post_at, pre_at, solve_leaves}
 use Rattle.cyp_goal.proofs.SolvedLits.{solved_any-rename, solved_eq-less, solved_eq-rename}
 use Rattle.cyp_goal.proofs.TidyLeaves.{IsTidy, tidy_leaves, tidy_same}
 use Rattle.cyp_goal.specs.Laws.{NormalOfNormal}
 use Rattle.cyp_goal.specs.Normal.{Renaming, keep_limits, normal, solve, tidy_node}
 use Rattle.cyp_goal.specs.Numbering.{new_name, renumber}
 use Rattle.cyp_goal.specs.Pruning.{prune}
-use Rattle.cyp_goal.specs.Solving.{first_solved, is_logical, solve_post, solve_pre, solved_any, solved_eq, substitute, with_post, with_pre}
+use Rattle.cyp_goal.specs.Solving.{first_solved, is_logical, solve_post, solve_pre, solved_any, solved_eq}
 use Rattle.cyp_goal.specs.Sorted.{IsRaw, lit_fits}
 use Rattle.cyp_heap.specs.Chunks.{chunks_vars}
 use Rattle.cyp_heap.specs.Goals.{node_vars}
@@ -33,8 +33,6 @@ use Rattle.cyp_heap.specs.declared.goal.Goal.{Goal}
 use Rattle.cyp_heap.specs.declared.goal.Node.{Node}
 use Rattle.cyp_term.proofs.Lists.{Among, Among-cases, Among-map, each_at, each_from, filter_out, flat_in, map_from}
 use Rattle.cyp_term.specs.Terms.{is_set_var, lit_vars, lits_vars, sort_eq, var_in}
-use Rattle.cyp_term.specs.declared.lit.Lit.{Lit}
-use Rattle.cyp_term.specs.declared.subst.Subst.{Subst}
 use Rattle.cyp_term.specs.declared.term.Sort.TheVariants.{Set}
 use Rattle.cyp_term.specs.declared.term.Var.{Var}
 

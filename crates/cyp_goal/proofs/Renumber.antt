@@ -1,7 +1,7 @@
 -- Numbering anew is a renaming.
-use Rattle.std.proofs.Common.{◌≡◌, ◌∙◌, [], ◌∷◌, ◌++◌, List, Option, Some, None, Bool, true, false, ◌&&◌, not, map, filter, flat_map, refl, ap, ap₂, sym, inl, inr}
+use Rattle.std.proofs.Common.{◌≡◌, ◌∙◌, [], ◌∷◌, ◌++◌, List, Option, Some, None, Bool, true, ◌&&◌, not, map, filter, flat_map, refl, ap, ap₂, inl, inr}
 use Rattle.std.specs.List.{list_all}
-use Rattle.std.proofs.lemmas.Bool.{and_parts, both_ways, cond_both}
+use Rattle.std.proofs.lemmas.Bool.{and_parts, cond_both}
 use Rattle.cyp_goal.proofs.AllNew.{without_repeats-all_new}
 use Rattle.cyp_goal.proofs.Fits.{FitNode, FitSet, set_parts}
 use Rattle.cyp_goal.proofs.Maps.{without_repeats-map}
