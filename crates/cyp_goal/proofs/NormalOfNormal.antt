@@ -25,7 +25,7 @@ use Rattle.cyp_goal.specs.Normal.{Renaming, keep_limits, normal, solve, tidy_nod
 use Rattle.cyp_goal.specs.Numbering.{new_name, renumber}
 use Rattle.cyp_goal.specs.Pruning.{prune}
 use Rattle.cyp_goal.specs.Solving.{first_solved, is_logical, solve_post, solve_pre, solved_any, solved_eq}
-use Rattle.cyp_goal.specs.Sorted.{IsRaw, lit_fits}
+use Rattle.cyp_goal.specs.Raw.{IsRaw, lit_fits}
 use Rattle.cyp_heap.specs.Chunks.{chunks_vars}
 use Rattle.cyp_heap.specs.Goals.{node_vars}
 use Rattle.cyp_heap.specs.Limits.{is_within_limits}
@@ -57,9 +57,9 @@ avoids_exist g f h =
 -- the steps before the last leave a reduced node
 reduced : (n s : Node) → IsRaw n → solve n ≡ Some s → IsReduced (prune (tidy_node s))
 reduced n s raw e =
-    let fits : FitNode no_set is_set_var n = node_parts no_set is_set_var n raw.sorted in
+    let fits : FitNode no_set is_set_var n = node_parts no_set is_set_var n raw.written in
     let t : Node = tidy_node s in
-    let tidy : IsTidy no_set is_set_var t = tidy_leaves no_set is_set_var s (solve_leaves no_set is_set_var n s fits (avoids_exist n.goal fits.pure_pre raw.closed) e) in
+    let tidy : IsTidy no_set is_set_var t = tidy_leaves no_set is_set_var s (solve_leaves no_set is_set_var n s fits (avoids_exist n.goal fits.pure_pre raw.exist_apart) e) in
     record {
       tidy = prune_leaves no_set is_set_var t tidy;
       pruned = prune_again t;

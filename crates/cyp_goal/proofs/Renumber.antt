@@ -9,7 +9,7 @@ use Rattle.cyp_goal.proofs.Ranks.{among_rest}
 use Rattle.cyp_goal.proofs.Rename.{IsRenaming, rename_arg, rename_base, rename_chunk, rename_images, rename_link, rename_lit, rename_node, rename_set, rename_term, term_eq-rename}
 use Rattle.cyp_goal.proofs.RenameVars.{link_vars, rename_int_bind, rename_set_bind}
 use Rattle.cyp_goal.specs.Numbering.{new_name, numbering, renumber}
-use Rattle.cyp_goal.specs.Sorted.{arg_fits, chunk_fits, images_fit, link_fits, lit_fits, set_fits, term_fits}
+use Rattle.cyp_goal.specs.Raw.{arg_fits, chunk_fits, images_fit, link_fits, lit_fits, set_fits, term_fits}
 use Rattle.cyp_heap.specs.Chunks.{apply_arg, apply_card, apply_chunk, arg_vars, card_vars, chunk_vars, chunks_vars}
 use Rattle.cyp_heap.specs.Goals.{apply_bind, apply_link, apply_set_bind, goal_vars, image_vars, node_vars}
 use Rattle.cyp_heap.specs.declared.chunk.Arg.{Arg}

@@ -10,7 +10,7 @@ use Rattle.cyp_goal.proofs.Fits.{FitNode, ImagesFit, lit_fits-at, lits_fit-apply
 use Rattle.cyp_goal.proofs.SolvedLits.{SolvesFor, solved_any-by, solved_eq-by, solved_eq-less}
 use Rattle.cyp_goal.specs.Normal.{solve}
 use Rattle.cyp_goal.specs.Solving.{first_solved, is_logical, solve_post, solve_pre, solved_any, solved_eq, substitute, wide_subst, with_post, with_pre}
-use Rattle.cyp_goal.specs.Sorted.{lit_fits, term_fits}
+use Rattle.cyp_goal.specs.Raw.{lit_fits, term_fits}
 use Rattle.cyp_heap.specs.Goals.{apply_node, wide_node}
 use Rattle.cyp_heap.specs.declared.goal.Node.{Node}
 use Rattle.cyp_term.proofs.Lists.{each_at, each_from}
