@@ -1,0 +1,13 @@
+pub mod Maps
+pub mod Rename
+pub mod RenameVars
+pub mod RenameTidy
+pub mod RenamePrune
+pub mod AllNew
+pub mod Fits
+pub mod FirstSolved
+pub mod SolvedLits
+pub mod SolveLeaves
+pub mod LitEquality
+pub mod Added
+pub mod Live
