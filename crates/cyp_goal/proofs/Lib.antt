@@ -3,6 +3,7 @@ pub mod Rename
 pub mod RenameVars
 pub mod RenameTidy
 pub mod RenamePrune
+pub mod RenameApply
 pub mod AllNew
 pub mod Fits
 pub mod FirstSolved
