@@ -4,6 +4,7 @@ pub mod RenameVars
 pub mod RenameTidy
 pub mod RenamePrune
 pub mod RenameApply
+pub mod RenameSolve
 pub mod AllNew
 pub mod Fits
 pub mod FirstSolved
