@@ -13,3 +13,9 @@ pub mod SolveLeaves
 pub mod LitEquality
 pub mod Added
 pub mod Live
+pub mod TidyLeaves
+pub mod PruneLeaves
+pub mod Ranks
+pub mod RenameFits
+pub mod RenameSelf
+pub mod Renumber
