@@ -19,3 +19,4 @@ pub mod Ranks
 pub mod RenameFits
 pub mod RenameSelf
 pub mod Renumber
+pub mod NormalOfNormal

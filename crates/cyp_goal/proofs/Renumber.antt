@@ -21,6 +21,7 @@ use Rattle.cyp_heap.specs.declared.goal.Link.{Link}
 use Rattle.cyp_heap.specs.declared.goal.Node.{Node}
 use Rattle.cyp_term.proofs.Equality.{Decides-var_eq}
 use Rattle.cyp_term.proofs.Lists.{Among, Among-left, Among-right, each_at, filter_in, flat_in}
+use Rattle.cyp_term.proofs.Numbers.{zero-plus}
 use Rattle.cyp_term.proofs.Repeats.{without_repeats_in}
 use Rattle.cyp_term.specs.Terms.{apply_lit, apply_set, apply_term, apply_var, base_vars, image_or_self, int_image, is_set_var, lit_vars, lits_vars, plus, set_image, set_var, set_vars, term_at, term_base, term_eq, term_vars, var_at, var_eq, var_term, without_repeats}
 use Rattle.cyp_term.specs.declared.lit.Lit.{Lit}
@@ -57,10 +58,7 @@ map_where f g (x ∷ xs) h =
     let rest = map_where f g xs (λ y k. h y (inr k)) in
     λ i. first i ∷ rest i
 
-from_zero : (z : ℤ) → pos 0 +ℤ z ≡ z
-from_zero z = omega (arith, ints)
-
-abbrev no_set : Var → Bool
+abbrev pub no_set : Var → Bool
 no_set v = not (is_set_var v)
 
 -- a renaming that gives each variable of the list its new name
@@ -83,7 +81,7 @@ module _ (vs : List Var) (r : Var → Var) (is : IsRenaming r) (new : (v : Var) 
   base_named : (t : Term) (b : Option Var) → t.base ≡ b → list_all no_set (base_vars b) ≡ true → In (base_vars b) → term_base by t b ≡ record { base = rename_base r b; offset = t.offset }
   base_named t None e h k = λ i. record { base = e i; offset = t.offset }
   base_named t (Some v) e h k =
-      ap (term_at t) (int_named v (and_parts (no_set v) true h).0 (k v (inl refl))) ∙ ap (λ z. record { base = Some (r v); offset = z }) (from_zero t.offset)
+      ap (term_at t) (int_named v (and_parts (no_set v) true h).0 (k v (inl refl))) ∙ ap (λ z. record { base = Some (r v); offset = z }) (zero-plus t.offset)
 
   term_named : (t : Term) → term_fits no_set t ≡ true → In (term_vars t) → apply_term by t ≡ rename_term r t
   term_named t h k = base_named t t.base refl h k
