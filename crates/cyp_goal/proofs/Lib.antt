@@ -18,5 +18,8 @@ pub mod PruneLeaves
 pub mod Ranks
 pub mod RenameFits
 pub mod RenameSelf
+pub mod RenameTwice
 pub mod Renumber
 pub mod NormalOfNormal
+pub mod NormalKeeps
+pub mod RenameNormal

@@ -81,7 +81,7 @@ module _ (r : Var → Var) where
 -- ---- one turn
 
 -- what is done with the first literal that has an answer
-abbrev turn : (Node → Option Node) → (Node → List Lit → Node) → Node → Option (Subst × List Lit) → Option Node
+abbrev pub turn : (Node → Option Node) → (Node → List Lit → Node) → Node → Option (Subst × List Lit) → Option Node
 turn again put n o = elim o [
   | None ↦ Some n
   | Some p ↦ option_and_then again (substitute p.0 (put n p.1))

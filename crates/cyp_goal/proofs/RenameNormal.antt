@@ -1,0 +1,136 @@
+-- The normal form of a node under new names.
+use Rattle.std.proofs.Common.{◌≡◌, ◌∙◌, ◌⊎◌, [], ◌∷◌, ◌++◌, List, Option, Some, None, Bool, true, false, cond, not, map, filter, option_and_then, option_map, Decides, refl, ap, ap₂, sym, inl, inr, subst, ⊎_elim}
+use Rattle.std.proofs.lemmas.Bool.{both_ways, false_from_ne_true}
+use Rattle.cyp_goal.proofs.Fits.{FitNode, node_parts}
+use Rattle.cyp_goal.proofs.Live.{among_in, in_among}
+use Rattle.cyp_goal.proofs.Maps.{at_cond}
+use Rattle.cyp_goal.proofs.NormalKeeps.{Kept, prune_keeps, solve_keeps, tidy_keeps}
+use Rattle.cyp_goal.proofs.Ranks.{IsRenaming-name_in, name_in, name_in-new, rank_in-rename}
+use Rattle.cyp_goal.proofs.Rename.{IsRenaming, rename_node}
+use Rattle.cyp_goal.proofs.RenameFits.{fit_renamed}
+use Rattle.cyp_goal.proofs.RenamePrune.{prune-rename}
+use Rattle.cyp_goal.proofs.RenameSolve.{solve-rename}
+use Rattle.cyp_goal.proofs.RenameTidy.{tidy_node-rename}
+use Rattle.cyp_goal.proofs.RenameTwice.{after, node_twice}
+use Rattle.cyp_goal.proofs.RenameVars.{node_vars-rename}
+use Rattle.cyp_goal.proofs.Renumber.{no_set, of_post, of_pure_post, renumber-renames}
+use Rattle.cyp_goal.specs.Normal.{Renaming, keep_limits, normal, solve, tidy_node}
+use Rattle.cyp_goal.specs.Numbering.{new_name, renumber}
+use Rattle.cyp_goal.specs.Pruning.{prune}
+use Rattle.cyp_goal.specs.Renamed.{AreNewNames}
+use Rattle.cyp_goal.specs.RenamingLaw.{LogicalRenamingLaw, RenamingLaw}
+use Rattle.cyp_goal.specs.Sorted.{is_sorted}
+use Rattle.cyp_heap.specs.Chunks.{chunks_vars}
+use Rattle.cyp_heap.specs.Goals.{node_vars}
+use Rattle.cyp_heap.specs.Limits.{is_within_limits}
+use Rattle.cyp_heap.specs.declared.goal.Node.{Node}
+use Rattle.cyp_term.proofs.Equality.{Decides-var_eq}
+use Rattle.cyp_term.proofs.Lists.{Among, Among-cases, Among-map, filter_out, map_from}
+use Rattle.cyp_term.specs.Terms.{is_set_var, lits_vars, sort_eq, var_eq, var_in}
+use Rattle.cyp_term.specs.declared.term.Sort.TheVariants.{Set}
+use Rattle.cyp_term.specs.declared.term.Var.{Var}
+
+-- new names tell the same variables apart
+names_apart : (r : Var → Var) → AreNewNames r → (v w : Var) → (b : Bool) → var_eq v w ≡ b → var_eq (r v) (r w) ≡ b
+names_apart r is v w true e = (Decides-var_eq (r v) (r w)).1 (ap r ((Decides-var_eq v w).0 e))
+names_apart r is v w false e =
+    false_from_ne_true (var_eq (r v) (r w)) (λ h. both_ways (var_eq v w) e ((Decides-var_eq v w).1 (is.injective v w ((Decides-var_eq (r v) (r w)).0 h))))
+
+renames : (r : Var → Var) → AreNewNames r → IsRenaming r
+renames r is = record { apart = λ v w. names_apart r is v w (var_eq v w) refl; sort = is.sort }
+
+-- the old names renamed
+abbrev renamed_old : (Var → Var) → Renaming → Renaming
+renamed_old r s = record { node = s.node; old = map r s.old }
+
+-- the steps behind solving
+abbrev finish : Node → Option Renaming
+finish m = keep_limits (prune (tidy_node m))
+
+module _ (r : Var → Var) (is : IsRenaming r) where
+  -- ---- numbers
+
+  after_renames : (s : Var → Var) → IsRenaming s → IsRenaming (after r s)
+  after_renames s so = record { apart = λ v w. so.apart (r v) (r w) ∙ is.apart v w; sort = λ v. so.sort (r v) ∙ is.sort v }
+
+  -- the place of a variable under its new name is the place that it had
+  new_name-rename : (vs : List Var) (v : Var) → new_name (map r vs) (r v) ≡ new_name vs v
+  new_name-rename vs v = λ i. record { sort = is.sort v i; number = rank_in-rename r is vs v i }
+
+  -- the numbers of a node don't depend on its names, where each variable has the sort of its place and each existential stands somewhere
+  renumber-rename : (n : Node) → FitNode no_set is_set_var n → ((v : Var) → Among v n.goal.exist → Among v (node_vars n)) → renumber (rename_node r n) ≡ renumber n
+  renumber-rename n fits used =
+      let vs : List Var = node_vars n in
+      let ws : List Var = node_vars (rename_node r n) in
+      let s : Var → Var = name_in ws in
+      let is_map : ws ≡ map r vs = node_vars-rename r is n in
+      let there : (v : Var) → Among v vs → Among (r v) ws = λ v k. subst (Among (r v)) (sym is_map) (Among-map r v vs k) in
+      renumber-renames (rename_node r n) s (IsRenaming-name_in ws) (name_in-new ws)
+      (fit_renamed r is no_set is_set_var (λ v. ap (λ t. not (sort_eq t Set)) (is.sort v)) (λ v. ap (λ t. sort_eq t Set) (is.sort v)) n fits)
+      (λ v k. let w = map_from r v n.goal.exist k in subst (λ u. Among u ws) (sym w.2) (there w.0 (used w.0 w.1)))
+      ∙ node_twice r s n
+      ∙ sym (renumber-renames n (after r s) (after_renames s (IsRenaming-name_in ws))
+      (λ v k. sym (new_name-rename vs v) ∙ ap (λ us. new_name us (r v)) (sym is_map) ∙ name_in-new ws (r v) (there v k)) fits used)
+
+  -- ---- the steps behind solving
+
+  limits-rename : (n m : Node) → renumber m ≡ renumber n → m.goal.program ≡ map r n.goal.program → keep_limits m ≡ option_map (renamed_old r) (keep_limits n)
+  limits-rename n m e h =
+      (λ i. cond (is_within_limits (e i)) (Some (record { node = e i; old = h i })) None)
+      ∙ at_cond (option_map (renamed_old r)) (is_within_limits (renumber n)) (Some (record { node = renumber n; old = n.goal.program })) None
+
+  exist_used : (t : Node) (v : Var) → Among v (prune t).goal.exist → Among v (node_vars (prune t))
+  exist_used t v k =
+      ⊎_elim (of_post (prune t) v) (of_pure_post (prune t) v)
+      (Among-cases v (chunks_vars t.goal.post.chunks) (lits_vars t.goal.pure_post)
+      (in_among v (chunks_vars t.goal.post.chunks ++ lits_vars t.goal.pure_post)
+      (filter_out (λ w. var_in w (chunks_vars t.goal.post.chunks ++ lits_vars t.goal.pure_post)) v t.goal.exist k).1))
+
+  finish-rename : (m : Node) → FitNode no_set is_set_var m → finish (rename_node r m) ≡ option_map (renamed_old r) (finish m)
+  finish-rename m fits =
+      let t : Node = tidy_node m in
+      ap keep_limits (ap prune (tidy_node-rename r is m) ∙ prune-rename r is t)
+      ∙ limits-rename (prune t) (rename_node r (prune t))
+      (renumber-rename (prune t) (prune_keeps no_set is_set_var t (tidy_keeps no_set is_set_var m fits)) (exist_used t)) refl
+
+  -- ---- all steps
+
+  finish_all : (o : Option Node) → ((m : Node) → o ≡ Some m → FitNode no_set is_set_var m)
+      → option_and_then finish (option_map (rename_node r) o) ≡ option_map (renamed_old r) (option_and_then finish o)
+  finish_all None h = refl
+  finish_all (Some m) h = finish-rename m (h m refl)
+
+  normal-rename : (n : Node) → FitNode no_set is_set_var n → normal (rename_node r n) ≡ option_map (renamed_old r) (normal n)
+  normal-rename n fits =
+      ap (option_and_then finish) (solve-rename r is n) ∙ finish_all (solve n) (λ m e. let k : Kept no_set is_set_var n m = solve_keeps no_set is_set_var n m fits e in k.fits)
+
+pub renaming_law : RenamingLaw
+renaming_law r n is sorted = normal-rename r (renames r is) n (node_parts no_set is_set_var n sorted)
+
+-- ---- where the program variables keep their names
+
+module _ (r : Var → Var) (ps : List Var) (same : (v : Var) → var_in v ps ≡ true → r v ≡ v) where
+  names_stay : (vs : List Var) → ((v : Var) → Among v vs → Among v ps) → map r vs ≡ vs
+  names_stay [] h = refl
+  names_stay (v ∷ vs) h =
+      let first = same v (among_in v ps (h v (inl refl))) in
+      let rest = names_stay vs (λ w k. h w (inr k)) in
+      λ i. first i ∷ rest i
+
+  -- the program variables that are left are some of those that were there
+  limits_stay : (m : Node) → m.goal.program ≡ ps → option_map (renamed_old r) (finish m) ≡ finish m
+  limits_stay m e =
+      let x : Node = prune (tidy_node m) in
+      sym (at_cond (option_map (renamed_old r)) (is_within_limits (renumber x)) (Some (record { node = renumber x; old = x.goal.program })) None)
+      ∙ ap (λ vs. cond (is_within_limits (renumber x)) (Some (record { node = renumber x; old = vs })) None)
+      (names_stay x.goal.program (λ v k. subst (Among v) e (filter_out _ v m.goal.program k).0))
+
+  all_stay : (o : Option Node) → ((m : Node) → o ≡ Some m → m.goal.program ≡ ps) → option_map (renamed_old r) (option_and_then finish o) ≡ option_and_then finish o
+  all_stay None h = refl
+  all_stay (Some m) h = limits_stay m (h m refl)
+
+pub logical_renaming_law : LogicalRenamingLaw
+logical_renaming_law r n is sorted same =
+    renaming_law r n is sorted
+    ∙ all_stay r n.goal.program same (solve n)
+    (λ m e. let k : Kept no_set is_set_var n m = solve_keeps no_set is_set_var n m (node_parts no_set is_set_var n sorted) e in k.program)
