@@ -1,5 +1,5 @@
 -- What is among a list to which others were added.
-use Rattle.std.proofs.Common.{◌≡◌, ◌⊎◌, [], ◌∷◌, ◌++◌, List, Bool, true, false, cond, Decides, refl, inl, inr}
+use Rattle.std.proofs.Common.{◌≡◌, ◌⊎◌, [], ◌∷◌, ◌++◌, List, Bool, Decides, refl, inl, inr}
 use Rattle.std.specs.List.{list_any}
 use Rattle.std.proofs.lemmas.Bool.{cond_both}
 use Rattle.cyp_term.proofs.Lists.{Among, Among-cases, Among-left, Among-right, Decides-some}

@@ -1,8 +1,8 @@
 -- The first literal that can be solved: there is none where none can be solved, and what is left where there is one.
-use Rattle.std.proofs.Common.{◌≡◌, ◌∙◌, [], ◌∷◌, List, Option, Some, None, Bool, true, false, ◌&&◌, length, ℕ, suc, option_map, refl, ap, sym, inl, inr, subst}
+use Rattle.std.proofs.Common.{◌≡◌, [], ◌∷◌, List, Option, Some, None, true, ◌&&◌, length, suc, option_map, refl, ap, inl, inr, subst}
 use Rattle.std.specs.List.{list_all}
 use Rattle.std.specs.Option.{is_none}
-use Rattle.std.proofs.lemmas.Bool.{and_from, and_parts, false≢true}
+use Rattle.std.proofs.lemmas.Bool.{and_parts, false≢true}
 use Rattle.std.proofs.lemmas.Option.{none-some, same_Some}
 use Rattle.cyp_goal.specs.Solving.{first_solved}
 use Rattle.cyp_term.proofs.Lists.{Among}

@@ -1,12 +1,11 @@
 -- Tests of the variables in places of integers and of sets: what they tell of each variable, and that a substitution keeps them.
-use Rattle.std.proofs.Common.{◌≡◌, ◌∙◌, [], ◌∷◌, ◌++◌, List, Option, Some, None, Bool, true, false, ◌&&◌, ◌⊎◌, inl, inr, map, flat_map, refl, ap, sym, ⊎_elim}
+use Rattle.std.proofs.Common.{◌≡◌, [], ◌∷◌, ◌++◌, List, Option, Some, None, Bool, true, ◌&&◌, map, flat_map, refl, ⊎_elim}
 use Rattle.std.specs.List.{list_all}
 use Rattle.std.proofs.lemmas.Bool.{and_from, and_parts}
-use Rattle.std.proofs.lemmas.List.Folds.{list_all-append}
 use Rattle.cyp_goal.proofs.AllNew.{all_new-without_repeats}
 use Rattle.cyp_goal.specs.Sorted.{all_new, arg_fits, chunk_fits, goal_fits, images_fit, link_fits, lit_fits, node_fits, set_fits, term_fits}
 use Rattle.cyp_heap.specs.Chunks.{apply_arg, apply_card, apply_chunk, card_vars}
-use Rattle.cyp_heap.specs.Goals.{apply_bind, apply_goal, apply_link, apply_node, apply_set_bind}
+use Rattle.cyp_heap.specs.Goals.{apply_bind, apply_link, apply_node, apply_set_bind}
 use Rattle.cyp_heap.specs.declared.chunk.Arg.{Arg}
 use Rattle.cyp_heap.specs.declared.chunk.Arg.TheVariants.{Int as IntArg, Set as SetArg}
 use Rattle.cyp_heap.specs.declared.chunk.Chunk.{Chunk}
@@ -17,7 +16,7 @@ use Rattle.cyp_heap.specs.declared.goal.Node.{Node}
 use Rattle.cyp_term.proofs.Equality.{Decides-term_eq, Decides-var_eq}
 use Rattle.cyp_term.proofs.Lists.{Among, Among-cases, Among-left, Among-right, each_at, each_from, flat_in, flat_out, map_from}
 use Rattle.cyp_term.proofs.Repeats.{without_repeats_out}
-use Rattle.cyp_term.specs.Terms.{apply_lit, apply_set, apply_term, apply_var, base_or, base_vars, image_or_self, int_image, lit_vars, plus, set_image, set_vars, term_at, term_base, term_eq, term_vars, var_at, var_eq, without_repeats}
+use Rattle.cyp_term.specs.Terms.{apply_lit, apply_set, apply_term, base_or, base_vars, image_or_self, int_image, lit_vars, set_image, set_vars, term_at, term_base, term_eq, term_vars, var_at, var_eq, without_repeats}
 use Rattle.cyp_term.specs.declared.lit.Lit.{Lit}
 use Rattle.cyp_term.specs.declared.lit.Lit.TheVariants.{Eq, Le, Lt, Member, Ne, NotMember, NotSame, NotSub, Same, Sub}
 use Rattle.cyp_term.specs.declared.lit.SetTerm.{SetTerm}

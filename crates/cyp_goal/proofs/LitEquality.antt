@@ -1,5 +1,5 @@
 -- The test of equality of literals decides it.
-use Rattle.std.proofs.Common.{◌≡◌, [], ◌∷◌, List, Bool, true, false, ◌&&◌, Decides, refl, ap}
+use Rattle.std.proofs.Common.{◌≡◌, [], ◌∷◌, List, Bool, true, ◌&&◌, Decides, refl}
 use Rattle.std.proofs.lemmas.Bool.{and_from, and_parts, false≢true}
 use Rattle.cyp_term.proofs.Equality.{Decides-term_eq, Decides-var_eq}
 use Rattle.cyp_term.specs.Terms.{lists_eq, lit_eq, set_eq, term_eq, var_eq}

@@ -1,7 +1,7 @@
 -- Live variables: so many rounds that nothing changes any more, and no more than what is tied to the first ones.
-use Rattle.std.proofs.Common.{◌≡◌, ◌∙◌, ◌⊎◌, [], ◌∷◌, ◌++◌, List, Bool, true, false, cond, ◌&&◌, not, length, ℕ, zero, suc, ◌≤◌, ◌<◌, refl, ap, sym, inl, inr, subst, ⊎_elim, arith, le_refl}
+use Rattle.std.proofs.Common.{◌≡◌, ◌∙◌, [], ◌∷◌, List, Bool, true, false, cond, ◌&&◌, not, length, ℕ, zero, suc, ◌≤◌, ◌<◌, refl, ap, sym, inl, inr, subst, ⊎_elim, arith}
 use Rattle.std.specs.List.{list_all, list_any}
-use Rattle.std.proofs.lemmas.Bool.{and_from, and_parts, cases_Bool, cond-false, cond-true, cond_both, both_ways, not_from_false, false_from_ne_true, true_from_ne_false, not-true}
+use Rattle.std.proofs.lemmas.Bool.{and_from, and_parts, cond_both, both_ways, not_from_false, true_from_ne_false, not-true}
 use Rattle.cyp_goal.proofs.Added.{added_new, added_old, added_out}
 use Rattle.cyp_goal.proofs.AllNew.{with_all_new-there}
 use Rattle.cyp_goal.specs.Pruning.{spread, spread_times, touches}

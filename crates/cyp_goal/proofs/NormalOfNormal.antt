@@ -1,5 +1,5 @@
 -- The normal form of a normal form is that normal form.
-use Rattle.std.proofs.Common.{◌≡◌, ◌∙◌, ◌⊎◌, [], ◌∷◌, ◌++◌, List, Option, Some, None, Bool, true, false, cond, ◌&&◌, not, map, length, ℕ, zero, suc, option_and_then, refl, ap, ap₂, sym, inl, inr, subst, ⊎_elim}
+use Rattle.std.proofs.Common.{◌≡◌, ◌∙◌, [], ◌∷◌, ◌++◌, List, Option, Some, None, true, cond, ◌&&◌, not, map, length, ℕ, zero, suc, option_and_then, refl, ap, ap₂, sym, inl, inr, subst, ⊎_elim}
 use Rattle.std.specs.List.{list_all}
 use Rattle.std.specs.Option.{is_none}
 use Rattle.std.proofs.lemmas.Bool.{and_parts, both_ways, cond-true, false_from_ne_true, not-true, not_from_false}
@@ -17,7 +17,7 @@ use Rattle.cyp_goal.proofs.RenameSelf.{node_self, self}
 use Rattle.cyp_goal.proofs.RenameTidy.{tidy_node-rename}
 use Rattle.cyp_goal.proofs.RenameVars.{node_vars-rename, var_in-rename}
 use Rattle.cyp_goal.proofs.Renumber.{no_set, of_post, of_pure_post, renumber-renames}
-use Rattle.cyp_goal.proofs.SolveLeaves.{IsSolved, apart, solve_leaves}
+use Rattle.cyp_goal.proofs.SolveLeaves.{apart, solve_leaves}
 use Rattle.cyp_goal.proofs.SolvedLits.{solved_any-rename, solved_eq-less, solved_eq-rename}
 use Rattle.cyp_goal.proofs.TidyLeaves.{IsTidy, tidy_leaves, tidy_same}
 use Rattle.cyp_goal.specs.Laws.{NormalOfNormal}

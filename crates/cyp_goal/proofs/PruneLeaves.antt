@@ -1,19 +1,18 @@
 -- What pruning leaves: nothing more to prune, and what was tidy stays so.
-use Rattle.std.proofs.Common.{◌≡◌, ◌∙◌, ◌⊎◌, [], ◌∷◌, ◌++◌, ◌==◌, List, Option, Some, None, Bool, true, false, cond, ◌&&◌, not, map, filter, flat_map, length, refl, ap, ap₂, sym, inl, inr, subst, ⊎_elim}
+use Rattle.std.proofs.Common.{◌≡◌, ◌∙◌, ◌⊎◌, [], ◌∷◌, ◌++◌, ◌==◌, List, Bool, true, false, cond, not, map, filter, flat_map, length, refl, ap, ap₂, sym, inl, inr, subst, ⊎_elim}
 use Rattle.std.specs.List.{list_all, list_any}
 use Rattle.std.specs.Option.{is_none}
-use Rattle.std.proofs.lemmas.Bool.{and_from, and_parts, both_ways, cases_Bool, cond-false, cond-true, cond_both, false_from_ne_true, not-true, not_from_false, not_from_true, false≢true}
+use Rattle.std.proofs.lemmas.Bool.{and_from, and_parts, both_ways, cond-false, cond-true, cond_both, false_from_ne_true, not-true, not_from_false, not_from_true}
 use Rattle.std.proofs.lemmas.List.Folds.{flat_map-map}
 use Rattle.cyp_goal.proofs.AllNew.{all_new-filter, filter-all}
-use Rattle.cyp_goal.proofs.Fits.{FitNode}
-use Rattle.cyp_goal.proofs.Live.{IsClosed, among_in, in_among, live_closed, live_old, live_within, touched, touched_by}
-use Rattle.cyp_goal.proofs.SolveLeaves.{IsSolved, apart}
+use Rattle.cyp_goal.proofs.Live.{among_in, in_among, live_closed, live_old, live_within, touched, touched_by}
+use Rattle.cyp_goal.proofs.SolveLeaves.{apart}
 use Rattle.cyp_goal.proofs.SolvedLits.{solved_any-less, solved_eq-less}
 use Rattle.cyp_goal.proofs.TidyLeaves.{AddressLit, IsTidy, address_lit}
 use Rattle.cyp_goal.specs.Pruning.{is_kept, live_vars, only_vars, prune, touches}
 use Rattle.cyp_goal.specs.Solving.{solved_any, solved_eq}
-use Rattle.cyp_goal.specs.Sorted.{all_new, images_fit, link_fits, lit_fits, set_fits, term_fits}
-use Rattle.cyp_goal.specs.Tidying.{above_zero, address, address_lits, is_plainly_true}
+use Rattle.cyp_goal.specs.Sorted.{images_fit, link_fits, lit_fits, set_fits, term_fits}
+use Rattle.cyp_goal.specs.Tidying.{address, is_plainly_true}
 use Rattle.cyp_heap.specs.Chunks.{chunk_vars, chunks_vars}
 use Rattle.cyp_heap.specs.Goals.{tuple_vars}
 use Rattle.cyp_heap.specs.declared.chunk.Chunk.{Chunk}

@@ -1,6 +1,6 @@
 -- The numbers of variables: a renaming that keeps sorts and tells all variables apart.
-use Rattle.std.proofs.Common.{◌≡◌, ◌∙◌, [], ◌∷◌, List, Bool, true, false, cond, ◌&&◌, ◌==◌, map, length, ℕ, zero, suc, ◌+◌, ◌≤◌, ◌<◌, Decides, refl, ap, ap₂, sym, inl, inr, subst, ⊎_elim, arith, le_refl}
-use Rattle.std.proofs.lemmas.Bool.{both_ways, cases_Bool, cond-false, cond-true, cond_both, false_from_ne_true, true_from_ne_false}
+use Rattle.std.proofs.Common.{◌≡◌, ◌∙◌, [], ◌∷◌, List, Bool, true, false, cond, map, length, ℕ, suc, ◌+◌, ◌≤◌, ◌<◌, Decides, refl, ap, sym, inl, inr, subst, ⊎_elim, arith, le_refl}
+use Rattle.std.proofs.lemmas.Bool.{both_ways, cases_Bool, cond-true, false_from_ne_true}
 use Rattle.cyp_goal.proofs.Live.{among_in, in_among}
 use Rattle.cyp_goal.proofs.Rename.{IsRenaming}
 use Rattle.cyp_goal.specs.Numbering.{new_name, rank_from, rank_in}

@@ -1,11 +1,11 @@
 -- A renaming that keeps the tests of variables keeps what fits.
-use Rattle.std.proofs.Common.{◌≡◌, ◌∙◌, [], ◌∷◌, List, Option, Some, None, Bool, true, false, ◌&&◌, map, refl, ap, ap₂, sym}
+use Rattle.std.proofs.Common.{◌≡◌, ◌∙◌, [], Option, Some, None, Bool, true, ◌&&◌, refl, ap, ap₂}
 use Rattle.std.specs.List.{list_all}
 use Rattle.cyp_goal.proofs.Fits.{FitNode}
 use Rattle.cyp_goal.proofs.Maps.{all_new-map, list_all-map}
 use Rattle.cyp_goal.proofs.Rename.{IsRenaming, rename_arg, rename_base, rename_chunk, rename_images, rename_link, rename_lit, rename_node, rename_set, rename_term, term_eq-rename}
 use Rattle.cyp_goal.proofs.RenameVars.{rename_int_bind, rename_set_bind}
-use Rattle.cyp_goal.specs.Sorted.{all_new, arg_fits, chunk_fits, images_fit, link_fits, lit_fits, set_fits, term_fits}
+use Rattle.cyp_goal.specs.Sorted.{arg_fits, chunk_fits, images_fit, link_fits, lit_fits, set_fits, term_fits}
 use Rattle.cyp_heap.specs.Chunks.{card_vars}
 use Rattle.cyp_heap.specs.declared.chunk.Arg.{Arg}
 use Rattle.cyp_heap.specs.declared.chunk.Arg.TheVariants.{Int as IntArg, Set as SetArg}

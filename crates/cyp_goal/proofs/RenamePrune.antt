@@ -1,5 +1,5 @@
 -- Pruning and renaming may change places.
-use Rattle.std.proofs.Common.{◌≡◌, ◌∙◌, [], ◌∷◌, ◌++◌, ◌==◌, List, Option, Some, None, Bool, true, false, cond, not, map, filter, flat_map, length, ℕ, zero, suc, refl, ap, ap₂, sym}
+use Rattle.std.proofs.Common.{◌≡◌, ◌∙◌, [], ◌∷◌, ◌++◌, ◌==◌, List, true, cond, not, map, filter, length, ℕ, zero, suc, refl, ap, ap₂}
 use Rattle.std.specs.List.{list_all, list_any}
 use Rattle.std.proofs.lemmas.List.{length-map}
 use Rattle.cyp_goal.specs.Pruning.{is_kept, live_vars, only_vars, prune, spread, spread_times, touches}
@@ -106,7 +106,7 @@ module _ (r : Var → Var) (is : IsRenaming r) where
       let exist' = in-rename _ later g.exist later' in
       let dropped' = joined r (filter (λ v. not (var_in v program)) g.program) (filter (λ v. not (var_in v exist)) g.exist) _ _
       (out-rename _ program g.program program') (out-rename _ exist g.exist exist') in
-      let alive' = ap (filter (λ v. not (var_in v (filter (λ w. not (var_in w (prune (rename_node r n)).goal.program) ) (map r g.program)
+      let alive' = ap (filter (λ v. not (var_in v (filter (λ w. not (var_in w (prune (rename_node r n)).goal.program)) (map r g.program)
       ++ filter (λ w. not (var_in w (prune (rename_node r n)).goal.exist)) (map r g.exist)))))
       (joined r live program _ _ live' program') ∙ out-rename _ dropped (live ++ program) dropped' in
       let links = ap (λ (vs : List Var). map (λ (k : Link). record k { map = only_vars vs k.map }) (map (rename_link r) n.links)) alive'

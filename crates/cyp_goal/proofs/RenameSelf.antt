@@ -1,6 +1,6 @@
 -- A renaming of each variable to itself changes nothing.
-use Rattle.std.proofs.Common.{◌≡◌, ◌∙◌, [], ◌∷◌, List, Option, Some, None, map, refl, ap, ap₂}
-use Rattle.cyp_goal.proofs.Rename.{rename_arg, rename_base, rename_chunk, rename_goal, rename_images, rename_link, rename_lit, rename_node, rename_set, rename_term}
+use Rattle.std.proofs.Common.{◌≡◌, [], ◌∷◌, List, Option, Some, None, map, refl, ap, ap₂}
+use Rattle.cyp_goal.proofs.Rename.{rename_arg, rename_base, rename_chunk, rename_link, rename_lit, rename_node, rename_set, rename_term}
 use Rattle.cyp_goal.proofs.RenameVars.{rename_int_bind, rename_set_bind}
 use Rattle.cyp_heap.specs.declared.chunk.Arg.{Arg}
 use Rattle.cyp_heap.specs.declared.chunk.Arg.TheVariants.{Int as IntArg, Set as SetArg}

@@ -1,5 +1,5 @@
 -- Tidying and renaming may change places.
-use Rattle.std.proofs.Common.{◌≡◌, ◌∙◌, [], ◌∷◌, ◌++◌, List, Option, Some, None, Bool, ◌&&◌, not, map, filter, flat_map, ℤ, pos, int_le, int_lt, refl, ap, ap₂}
+use Rattle.std.proofs.Common.{◌≡◌, ◌∙◌, List, Some, None, ◌&&◌, not, map, filter, flat_map, pos, int_le, int_lt, refl, ap, ap₂}
 use Rattle.std.specs.Ordering.{int_eq}
 use Rattle.cyp_goal.specs.Normal.{tidy_node}
 use Rattle.cyp_goal.specs.Tidying.{above_zero, address, address_lits, is_plainly_true, least_of, offsets_at, tidy_lits}
@@ -9,11 +9,11 @@ use Rattle.cyp_heap.specs.declared.goal.Goal.{Goal}
 use Rattle.cyp_heap.specs.declared.goal.Node.{Node}
 use Rattle.cyp_term.specs.Terms.{base_eq, lit_eq, term_vars, var_eq, with_all_new, without_repeats}
 use Rattle.cyp_term.specs.declared.lit.Lit.{Lit}
-use Rattle.cyp_term.specs.declared.lit.Lit.TheVariants.{Eq, Le, Lt, Member, Ne, NotMember, NotSame, NotSub, Same, Sub}
+use Rattle.cyp_term.specs.declared.lit.Lit.TheVariants.{Eq, Le, Lt, Ne, Same}
 use Rattle.cyp_term.specs.declared.term.Term.{Term}
 use Rattle.cyp_term.specs.declared.term.Var.{Var}
 use Rattle.cyp_goal.proofs.Maps.{filter-map, flat_map-map, joined, map_after, map_both, with_all_new-map, without_repeats-map}
-use Rattle.cyp_goal.proofs.Rename.{IsRenaming, base_eq-rename, lit_eq-rename, rename_chunk, rename_goal, rename_link, rename_lit, rename_node, rename_term, set_eq-rename}
+use Rattle.cyp_goal.proofs.Rename.{IsRenaming, base_eq-rename, lit_eq-rename, rename_chunk, rename_link, rename_lit, rename_node, rename_term, set_eq-rename}
 use Rattle.cyp_goal.proofs.RenameVars.{terms_vars-rename}
 
 module _ (r : Var → Var) (is : IsRenaming r) where

@@ -1,5 +1,5 @@
 -- The variables of what is renamed.
-use Rattle.std.proofs.Common.{◌≡◌, ◌∙◌, [], ◌∷◌, ◌++◌, List, Option, Some, None, Bool, map, flat_map, refl, ap}
+use Rattle.std.proofs.Common.{◌≡◌, ◌∙◌, ◌++◌, List, Option, Some, None, map, flat_map, refl, ap}
 use Rattle.cyp_heap.specs.Chunks.{arg_vars, card_vars, chunk_vars, chunks_vars}
 use Rattle.cyp_heap.specs.Goals.{goal_vars, image_vars, node_vars, tuple_vars}
 use Rattle.cyp_heap.specs.declared.chunk.Arg.{Arg}

@@ -1,17 +1,16 @@
 -- Numbering anew is a renaming.
-use Rattle.std.proofs.Common.{◌≡◌, ◌∙◌, ◌⊎◌, [], ◌∷◌, ◌++◌, List, Option, Some, None, Bool, true, false, cond, ◌&&◌, not, map, filter, flat_map, ℤ, pos, ◌+ℤ◌, refl, ap, ap₂, sym, inl, inr, subst, arith}
+use Rattle.std.proofs.Common.{◌≡◌, ◌∙◌, [], ◌∷◌, ◌++◌, List, Option, Some, None, Bool, true, false, ◌&&◌, not, map, filter, flat_map, refl, ap, ap₂, sym, inl, inr}
 use Rattle.std.specs.List.{list_all}
-use Rattle.std.proofs.lemmas.Bool.{and_parts, both_ways, cond_both, false≢true}
-use Rattle.std.proofs.lemmas.Int.{ints}
+use Rattle.std.proofs.lemmas.Bool.{and_parts, both_ways, cond_both}
 use Rattle.cyp_goal.proofs.AllNew.{without_repeats-all_new}
 use Rattle.cyp_goal.proofs.Fits.{FitNode, FitSet, set_parts}
 use Rattle.cyp_goal.proofs.Maps.{without_repeats-map}
-use Rattle.cyp_goal.proofs.Rename.{IsRenaming, rename_arg, rename_base, rename_chunk, rename_goal, rename_images, rename_link, rename_lit, rename_node, rename_set, rename_term, term_eq-rename}
+use Rattle.cyp_goal.proofs.Rename.{IsRenaming, rename_arg, rename_base, rename_chunk, rename_images, rename_link, rename_lit, rename_node, rename_set, rename_term, term_eq-rename}
 use Rattle.cyp_goal.proofs.RenameVars.{link_vars, rename_int_bind, rename_set_bind}
 use Rattle.cyp_goal.specs.Numbering.{new_name, numbering, renumber}
-use Rattle.cyp_goal.specs.Sorted.{all_new, arg_fits, chunk_fits, images_fit, link_fits, lit_fits, set_fits, term_fits}
+use Rattle.cyp_goal.specs.Sorted.{arg_fits, chunk_fits, images_fit, link_fits, lit_fits, set_fits, term_fits}
 use Rattle.cyp_heap.specs.Chunks.{apply_arg, apply_card, apply_chunk, arg_vars, card_vars, chunk_vars, chunks_vars}
-use Rattle.cyp_heap.specs.Goals.{apply_bind, apply_goal, apply_link, apply_node, apply_set_bind, goal_vars, image_vars, node_vars}
+use Rattle.cyp_heap.specs.Goals.{apply_bind, apply_link, apply_set_bind, goal_vars, image_vars, node_vars}
 use Rattle.cyp_heap.specs.declared.chunk.Arg.{Arg}
 use Rattle.cyp_heap.specs.declared.chunk.Arg.TheVariants.{Int as IntArg, Set as SetArg}
 use Rattle.cyp_heap.specs.declared.chunk.Chunk.{Chunk}
@@ -23,7 +22,7 @@ use Rattle.cyp_term.proofs.Equality.{Decides-var_eq}
 use Rattle.cyp_term.proofs.Lists.{Among, Among-left, Among-right, each_at, filter_in, flat_in}
 use Rattle.cyp_term.proofs.Numbers.{zero-plus}
 use Rattle.cyp_term.proofs.Repeats.{without_repeats_in}
-use Rattle.cyp_term.specs.Terms.{apply_lit, apply_set, apply_term, apply_var, base_vars, image_or_self, int_image, is_set_var, lit_vars, lits_vars, plus, set_image, set_var, set_vars, term_at, term_base, term_eq, term_vars, var_at, var_eq, var_term, without_repeats}
+use Rattle.cyp_term.specs.Terms.{apply_lit, apply_set, apply_term, base_vars, image_or_self, int_image, is_set_var, lit_vars, lits_vars, set_image, set_var, set_vars, term_at, term_base, term_eq, term_vars, var_at, var_eq, var_term, without_repeats}
 use Rattle.cyp_term.specs.declared.lit.Lit.{Lit}
 use Rattle.cyp_term.specs.declared.lit.Lit.TheVariants.{Eq, Le, Lt, Member, Ne, NotMember, NotSame, NotSub, Same, Sub}
 use Rattle.cyp_term.specs.declared.lit.SetTerm.{SetTerm}

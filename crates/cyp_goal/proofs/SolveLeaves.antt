@@ -1,8 +1,8 @@
 -- What solving leaves: no equation that can be solved.
-use Rattle.std.proofs.Common.{◌≡◌, ◌∙◌, [], ◌∷◌, ◌++◌, List, Option, Some, None, Bool, true, false, cond, ◌&&◌, ◌||◌, not, map, length, ℕ, zero, suc, option_and_then, refl, ap, ap₂, sym, subst, arith}
+use Rattle.std.proofs.Common.{◌≡◌, ◌∙◌, [], ◌∷◌, List, Option, Some, None, Bool, true, false, cond, ◌||◌, not, map, length, ℕ, zero, suc, option_and_then, refl, ap, ap₂, sym, subst, arith}
 use Rattle.std.specs.List.{list_all}
 use Rattle.std.specs.Option.{is_none}
-use Rattle.std.proofs.lemmas.Bool.{and_from, and_parts, both_ways, not-true}
+use Rattle.std.proofs.lemmas.Bool.{and_from, and_parts, not-true}
 use Rattle.std.proofs.lemmas.List.{length-map, nil_from_length}
 use Rattle.std.proofs.lemmas.Option.{none-some, option_and_then_some, same_Some}
 use Rattle.cyp_goal.proofs.FirstSolved.{Found, all_none, first_found}
@@ -12,12 +12,11 @@ use Rattle.cyp_goal.specs.Normal.{solve}
 use Rattle.cyp_goal.specs.Solving.{first_solved, is_logical, solve_post, solve_pre, solved_any, solved_eq, substitute, wide_subst, with_post, with_pre}
 use Rattle.cyp_goal.specs.Sorted.{lit_fits, term_fits}
 use Rattle.cyp_heap.specs.Goals.{apply_node, wide_node}
-use Rattle.cyp_heap.specs.declared.goal.Goal.{Goal}
 use Rattle.cyp_heap.specs.declared.goal.Node.{Node}
-use Rattle.cyp_term.proofs.Lists.{Among, each_at, each_from}
-use Rattle.cyp_term.specs.Terms.{apply_lit, apply_term, base_vars, int_image, set_image, term_at, term_base, var_in}
+use Rattle.cyp_term.proofs.Lists.{each_at, each_from}
+use Rattle.cyp_term.specs.Terms.{apply_lit, base_vars, term_at, term_base, var_in}
 use Rattle.cyp_term.specs.declared.lit.Lit.{Lit}
-use Rattle.cyp_term.specs.declared.lit.Lit.TheVariants.{Eq, Le, Lt, Member, Ne, NotMember, NotSame, NotSub, Same, Sub}
+use Rattle.cyp_term.specs.declared.lit.Lit.TheVariants.{Eq}
 use Rattle.cyp_term.specs.declared.subst.Subst.{Subst}
 use Rattle.cyp_term.specs.declared.term.Term.{Term}
 use Rattle.cyp_term.specs.declared.term.Var.{Var}

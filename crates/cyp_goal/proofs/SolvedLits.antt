@@ -1,19 +1,18 @@
 -- When a literal can't be solved, and what it is solved by where it can.
-use Rattle.std.proofs.Common.{◌≡◌, ◌∙◌, ◌⊎◌, [], ◌∷◌, ◌++◌, List, Option, Some, None, Bool, true, false, cond, ◌&&◌, not, map, neg_ℤ, refl, ap, ap₂, sym, inl, inr, subst, ⊎_elim}
-use Rattle.std.specs.List.{list_all}
+use Rattle.std.proofs.Common.{◌≡◌, ◌∙◌, ◌⊎◌, [], ◌∷◌, ◌++◌, List, Option, Some, None, Bool, true, false, cond, ◌&&◌, not, map, neg_ℤ, refl, ap₂, sym, inl, inr, subst, ⊎_elim}
 use Rattle.std.specs.Option.{is_none}
 use Rattle.std.proofs.lemmas.Bool.{and_from, and_parts, both_ways, cond-false, false_from_ne_true, false≢true}
-use Rattle.std.proofs.lemmas.Option.{cond_some, none-some, same_Some}
-use Rattle.cyp_goal.proofs.Fits.{FitSet, ImagesFit, set_parts}
+use Rattle.std.proofs.lemmas.Option.{cond_some, none-some}
+use Rattle.cyp_goal.proofs.Fits.{ImagesFit}
 use Rattle.cyp_goal.proofs.Rename.{IsRenaming, base_eq-rename, rename_base, rename_lit, rename_set, rename_term}
 use Rattle.cyp_goal.proofs.RenameVars.{var_in-rename}
 use Rattle.cyp_goal.specs.Solving.{bind_int, bind_set, first_some, solved_any, solved_base, solved_eq, solved_parts, solved_set, solved_side}
 use Rattle.cyp_goal.specs.Sorted.{lit_fits, set_fits, term_fits}
 use Rattle.cyp_term.proofs.Equality.{Decides-var_eq}
 use Rattle.cyp_term.proofs.Lists.{Among, Among-left, Among-right}
-use Rattle.cyp_term.specs.Terms.{base_eq, base_vars, int_image, lit_vars, plus, set_image, set_vars, sort_eq, term_vars, var_eq, var_in}
+use Rattle.cyp_term.specs.Terms.{base_eq, base_vars, int_image, lit_vars, plus, set_image, sort_eq, term_vars, var_eq, var_in}
 use Rattle.cyp_term.specs.declared.lit.Lit.{Lit}
-use Rattle.cyp_term.specs.declared.lit.Lit.TheVariants.{Eq, Le, Lt, Member, Ne, NotMember, NotSame, NotSub, Same, Sub}
+use Rattle.cyp_term.specs.declared.lit.Lit.TheVariants.{Eq, Same}
 use Rattle.cyp_term.specs.declared.lit.SetTerm.{SetTerm}
 use Rattle.cyp_term.specs.declared.subst.Subst.{Subst}
 use Rattle.cyp_term.specs.declared.term.Sort.TheVariants.{Int}

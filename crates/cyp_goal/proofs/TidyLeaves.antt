@@ -1,12 +1,11 @@
 -- What tidying leaves: nothing that is plainly true, no repeats, and that addresses are positive.
-use Rattle.std.proofs.Common.{◌≡◌, ◌∙◌, ◌⊎◌, [], ◌∷◌, ◌++◌, List, Option, Some, None, Bool, true, false, ◌&&◌, not, map, filter, flat_map, ℤ, pos, int_le, int_lt, refl, ap, ap₂, sym, inl, inr, subst, ⊎_elim, arith}
+use Rattle.std.proofs.Common.{◌≡◌, ◌∙◌, ◌⊎◌, [], List, Some, None, Bool, true, false, ◌&&◌, not, map, filter, flat_map, ℤ, pos, int_le, int_lt, refl, ap, inl, inr, ⊎_elim, arith}
 use Rattle.std.specs.List.{list_all, list_any}
 use Rattle.std.specs.Option.{is_none}
 use Rattle.std.proofs.lemmas.Bool.{and_from, and_parts, false_from_ne_true}
 use Rattle.std.proofs.lemmas.Int.{ints}
-use Rattle.cyp_goal.proofs.Added.{added_new, added_old, added_out}
+use Rattle.cyp_goal.proofs.Added.{added_new, added_out}
 use Rattle.cyp_goal.proofs.AllNew.{all_new-with_all_new, all_new-without_repeats, filter-all, with_all_new-there, without_repeats-all_new}
-use Rattle.cyp_goal.proofs.Fits.{FitNode}
 use Rattle.cyp_goal.proofs.LitEquality.{Decides-lit_eq, lit_self}
 use Rattle.cyp_goal.proofs.SolveLeaves.{IsSolved, apart}
 use Rattle.cyp_goal.specs.Normal.{tidy_node}
