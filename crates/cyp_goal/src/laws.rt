@@ -1,8 +1,24 @@
+//! Laws of the normal form, each proved as the contract of a function that does nothing.
+
 ghost use Rattle.cyp_goal.specs.Laws.{NormalOfNormal};
+ghost use Rattle.cyp_goal.specs.RenamingLaw.{LogicalRenamingLaw, RenamingLaw};
 
 /// Law: the normal form of a normal form is that normal form. What was brought into normal form has
 /// the sorts of its places, writes no part of a set term twice, and has no existential in its pure
 /// precondition.
 pub fn normal_of_a_normal_form()
     ensures { NormalOfNormal }
+{}
+
+/// Law: a node under new names for its variables has the normal form that it had, or none where it
+/// had none. What its program variables were called is renamed along. Each variable has the sort of
+/// its place and keeps it, and no part of a set term is written twice.
+pub fn normal_under_new_names()
+    ensures { RenamingLaw }
+{}
+
+/// Law: where the program variables keep their names the normal form stays as it was, old names
+/// among it, whatever the logical variables and existentials are called.
+pub fn normal_under_new_logical_names()
+    ensures { LogicalRenamingLaw }
 {}
