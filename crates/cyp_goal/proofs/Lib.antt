@@ -22,4 +22,5 @@ pub mod RenameTwice
 pub mod Renumber
 pub mod NormalOfNormal
 pub mod NormalKeeps
+pub mod Extended
 pub mod RenameNormal

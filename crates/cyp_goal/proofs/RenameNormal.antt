@@ -1,6 +1,6 @@
 -- The normal form of a node under new names.
 use Rattle.std.proofs.Common.{◌≡◌, ◌∙◌, ◌⊎◌, [], ◌∷◌, ◌++◌, List, Option, Some, None, Bool, true, false, cond, not, map, filter, option_and_then, option_map, Decides, refl, ap, ap₂, sym, inl, inr, subst, ⊎_elim}
-use Rattle.std.proofs.lemmas.Bool.{both_ways, false_from_ne_true}
+use Rattle.std.proofs.lemmas.Option.{cond_some, option_and_then_some}
 use Rattle.cyp_goal.proofs.Fits.{FitNode, node_parts}
 use Rattle.cyp_goal.proofs.Live.{among_in, in_among}
 use Rattle.cyp_goal.proofs.Maps.{at_cond}
@@ -11,33 +11,26 @@ use Rattle.cyp_goal.proofs.RenameFits.{fit_renamed}
 use Rattle.cyp_goal.proofs.RenamePrune.{prune-rename}
 use Rattle.cyp_goal.proofs.RenameSolve.{solve-rename}
 use Rattle.cyp_goal.proofs.RenameTidy.{tidy_node-rename}
-use Rattle.cyp_goal.proofs.RenameTwice.{after, node_twice}
+use Rattle.cyp_goal.proofs.RenameSelf.{map_self, node_self, self}
+use Rattle.cyp_goal.proofs.RenameTwice.{node_twice}
+use Rattle.cyp_goal.proofs.Extended.{extended, extended_renames, extended_same}
 use Rattle.cyp_goal.proofs.RenameVars.{node_vars-rename}
-use Rattle.cyp_goal.proofs.Renumber.{no_set, of_post, of_pure_post, renumber-renames}
+use Rattle.cyp_goal.proofs.Renumber.{no_set, of_post, of_program, of_pure_post, renumber-renames}
 use Rattle.cyp_goal.specs.Normal.{Renaming, keep_limits, normal, solve, tidy_node}
 use Rattle.cyp_goal.specs.Numbering.{new_name, renumber}
 use Rattle.cyp_goal.specs.Pruning.{prune}
 use Rattle.cyp_goal.specs.Renamed.{AreNewNames}
-use Rattle.cyp_goal.specs.RenamingLaw.{LogicalRenamingLaw, RenamingLaw}
+use Rattle.cyp_goal.specs.RenamingLaw.{LogicalRenamingLaw, known_vars, RenamingLaw}
 use Rattle.cyp_goal.specs.Sorted.{is_sorted}
 use Rattle.cyp_heap.specs.Chunks.{chunks_vars}
 use Rattle.cyp_heap.specs.Goals.{node_vars}
 use Rattle.cyp_heap.specs.Limits.{is_within_limits}
 use Rattle.cyp_heap.specs.declared.goal.Node.{Node}
 use Rattle.cyp_term.proofs.Equality.{Decides-var_eq}
-use Rattle.cyp_term.proofs.Lists.{Among, Among-cases, Among-map, filter_out, map_from}
+use Rattle.cyp_term.proofs.Lists.{Among, Among-cases, Among-left, Among-right, Among-map, filter_out, map_from}
 use Rattle.cyp_term.specs.Terms.{is_set_var, lits_vars, sort_eq, var_eq, var_in}
 use Rattle.cyp_term.specs.declared.term.Sort.TheVariants.{Set}
 use Rattle.cyp_term.specs.declared.term.Var.{Var}
-
--- new names tell the same variables apart
-names_apart : (r : Var → Var) → AreNewNames r → (v w : Var) → (b : Bool) → var_eq v w ≡ b → var_eq (r v) (r w) ≡ b
-names_apart r is v w true e = (Decides-var_eq (r v) (r w)).1 (ap r ((Decides-var_eq v w).0 e))
-names_apart r is v w false e =
-    false_from_ne_true (var_eq (r v) (r w)) (λ h. both_ways (var_eq v w) e ((Decides-var_eq v w).1 (is.injective v w ((Decides-var_eq (r v) (r w)).0 h))))
-
-renames : (r : Var → Var) → AreNewNames r → IsRenaming r
-renames r is = record { apart = λ v w. names_apart r is v w (var_eq v w) refl; sort = is.sort }
 
 -- the old names renamed
 abbrev renamed_old : (Var → Var) → Renaming → Renaming
@@ -50,7 +43,10 @@ finish m = keep_limits (prune (tidy_node m))
 module _ (r : Var → Var) (is : IsRenaming r) where
   -- ---- numbers
 
-  after_renames : (s : Var → Var) → IsRenaming s → IsRenaming (after r s)
+  abbrev after : (Var → Var) → Var → Var
+  after s v = s (r v)
+
+  after_renames : (s : Var → Var) → IsRenaming s → IsRenaming (after s)
   after_renames s so = record { apart = λ v w. so.apart (r v) (r w) ∙ is.apart v w; sort = λ v. so.sort (r v) ∙ is.sort v }
 
   -- the place of a variable under its new name is the place that it had
@@ -68,8 +64,8 @@ module _ (r : Var → Var) (is : IsRenaming r) where
       renumber-renames (rename_node r n) s (IsRenaming-name_in ws) (name_in-new ws)
       (fit_renamed r is no_set is_set_var (λ v. ap (λ t. not (sort_eq t Set)) (is.sort v)) (λ v. ap (λ t. sort_eq t Set) (is.sort v)) n fits)
       (λ v k. let w = map_from r v n.goal.exist k in subst (λ u. Among u ws) (sym w.2) (there w.0 (used w.0 w.1)))
-      ∙ node_twice r s n
-      ∙ sym (renumber-renames n (after r s) (after_renames s (IsRenaming-name_in ws))
+      ∙ node_twice r s (after s) n (λ v k. refl) (λ v k. refl)
+      ∙ sym (renumber-renames n (after s) (after_renames s (IsRenaming-name_in ws))
       (λ v k. sym (new_name-rename vs v) ∙ ap (λ us. new_name us (r v)) (sym is_map) ∙ name_in-new ws (r v) (there v k)) fits used)
 
   -- ---- the steps behind solving
@@ -104,33 +100,52 @@ module _ (r : Var → Var) (is : IsRenaming r) where
   normal-rename n fits =
       ap (option_and_then finish) (solve-rename r is n) ∙ finish_all (solve n) (λ m e. let k : Kept no_set is_set_var n m = solve_keeps no_set is_set_var n m fits e in k.fits)
 
+-- ---- the names before
+
+-- the program variables that are left are some of those that were there
+old_among : (n : Node) (x : Renaming) → FitNode no_set is_set_var n → normal n ≡ Some x → (v : Var) → Among v x.old → Among v n.goal.program
+old_among n x fits e v k =
+    option_and_then_some finish (solve n) x e (λ m solved kept.
+    let y : Node = prune (tidy_node m) in
+    let s : Kept no_set is_set_var n m = solve_keeps no_set is_set_var n m fits solved in
+    let found = cond_some (is_within_limits (renumber y)) (record { node = renumber y; old = y.goal.program }) x kept in
+    let left : Among v y.goal.program = subst (λ (z : Renaming). Among v z.old) (sym found.1) k in
+    subst (Among v) s.program (filter_out _ v m.goal.program left).0)
+
+old_by : (f g : Renaming → Renaming) (o : Option Renaming) → ((x : Renaming) → o ≡ Some x → f x ≡ g x) → option_map f o ≡ option_map g o
+old_by f g None h = refl
+old_by f g (Some x) h = ap Some (h x refl)
+
+old_stays : (f : Renaming → Renaming) (o : Option Renaming) → ((x : Renaming) → o ≡ Some x → f x ≡ x) → option_map f o ≡ o
+old_stays f None h = refl
+old_stays f (Some x) h = ap Some (h x refl)
+
+same_names : (f g : Var → Var) (vs : List Var) → ((v : Var) → Among v vs → f v ≡ g v) → map f vs ≡ map g vs
+same_names f g [] h = refl
+same_names f g (v ∷ vs) h =
+    let here = h v (inl refl) in
+    let rest = same_names f g vs (λ w k. h w (inr k)) in
+    λ i. here i ∷ rest i
+
+-- ---- the laws
+
 pub renaming_law : RenamingLaw
-renaming_law r n is sorted = normal-rename r (renames r is) n (node_parts no_set is_set_var n sorted)
-
--- ---- where the program variables keep their names
-
-module _ (r : Var → Var) (ps : List Var) (same : (v : Var) → var_in v ps ≡ true → r v ≡ v) where
-  names_stay : (vs : List Var) → ((v : Var) → Among v vs → Among v ps) → map r vs ≡ vs
-  names_stay [] h = refl
-  names_stay (v ∷ vs) h =
-      let first = same v (among_in v ps (h v (inl refl))) in
-      let rest = names_stay vs (λ w k. h w (inr k)) in
-      λ i. first i ∷ rest i
-
-  -- the program variables that are left are some of those that were there
-  limits_stay : (m : Node) → m.goal.program ≡ ps → option_map (renamed_old r) (finish m) ≡ finish m
-  limits_stay m e =
-      let x : Node = prune (tidy_node m) in
-      sym (at_cond (option_map (renamed_old r)) (is_within_limits (renumber x)) (Some (record { node = renumber x; old = x.goal.program })) None)
-      ∙ ap (λ vs. cond (is_within_limits (renumber x)) (Some (record { node = renumber x; old = vs })) None)
-      (names_stay x.goal.program (λ v k. subst (Among v) e (filter_out _ v m.goal.program k).0))
-
-  all_stay : (o : Option Node) → ((m : Node) → o ≡ Some m → m.goal.program ≡ ps) → option_map (renamed_old r) (option_and_then finish o) ≡ option_and_then finish o
-  all_stay None h = refl
-  all_stay (Some m) h = limits_stay m (h m refl)
+renaming_law r n is sorted =
+    let vs : List Var = known_vars n in
+    let e : Var → Var = extended r vs is in
+    let fits : FitNode no_set is_set_var n = node_parts no_set is_set_var n sorted in
+    let same : (v : Var) → Among v vs → e v ≡ r v = extended_same r vs is in
+    let node = ap (rename_node e) (sym (node_self n))
+    ∙ node_twice self e r n (λ v k. same v (Among-left v (node_vars n) n.goal.exist k)) (λ v k. same v (Among-right v (node_vars n) n.goal.exist k)) in
+    ap normal (sym node) ∙ normal-rename e (extended_renames r vs is) n fits
+    ∙ old_by (renamed_old e) (renamed_old r) (normal n) (λ x found.
+    let old = same_names e r x.old (λ v k. same v (Among-left v (node_vars n) n.goal.exist (of_program n v (old_among n x fits found v k)))) in
+    λ i. record { node = x.node; old = old i })
 
 pub logical_renaming_law : LogicalRenamingLaw
-logical_renaming_law r n is sorted same =
+logical_renaming_law r n is sorted stay =
     renaming_law r n is sorted
-    ∙ all_stay r n.goal.program same (solve n)
-    (λ m e. let k : Kept no_set is_set_var n m = solve_keeps no_set is_set_var n m (node_parts no_set is_set_var n sorted) e in k.program)
+    ∙ old_stays (renamed_old r) (normal n) (λ x found.
+    let old = same_names r self x.old (λ v k. stay v (among_in v n.goal.program (old_among n x (node_parts no_set is_set_var n sorted) found v k)))
+    ∙ map_self self (λ v. refl) x.old in
+    λ i. record { node = x.node; old = old i })

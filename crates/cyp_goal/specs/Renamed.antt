@@ -1,5 +1,5 @@
 -- A node under new names for its variables.
-use Rattle.std.specs.Prelude.{◌≡◌, List, None, Option, Some, map}
+use Rattle.std.specs.Prelude.{◌≡◌, List, None, Option, Some, map, true}
 use Rattle.cyp_heap.specs.declared.chunk.Arg.{Arg}
 use Rattle.cyp_heap.specs.declared.chunk.Arg.TheVariants.{Int as IntArg, Set as SetArg}
 use Rattle.cyp_heap.specs.declared.chunk.Chunk.{Chunk}
@@ -7,6 +7,7 @@ use Rattle.cyp_heap.specs.declared.chunk.Chunk.TheVariants.{Block, Cell, Inst}
 use Rattle.cyp_heap.specs.declared.goal.Goal.{Goal}
 use Rattle.cyp_heap.specs.declared.goal.Link.{Link}
 use Rattle.cyp_heap.specs.declared.goal.Node.{Node}
+use Rattle.cyp_term.specs.Terms.{var_in}
 use Rattle.cyp_term.specs.declared.lit.Lit.{Lit}
 use Rattle.cyp_term.specs.declared.lit.Lit.TheVariants.{Eq, Le, Lt, Member, Ne, NotMember, NotSame, NotSub, Same, Sub}
 use Rattle.cyp_term.specs.declared.lit.SetTerm.{SetTerm}
@@ -16,10 +17,10 @@ use Rattle.cyp_term.specs.declared.subst.Subst.{Subst}
 use Rattle.cyp_term.specs.declared.term.Term.{Term}
 use Rattle.cyp_term.specs.declared.term.Var.{Var}
 
--- new names by which different variables stay different and each keeps its sort
-pub record AreNewNames (r : Var → Var) : Type 0 where
-  pub injective : (v w : Var) → r v ≡ r w → v ≡ w
-  pub sort : (v : Var) → (r v).sort ≡ v.sort
+-- new names by which the variables of the list stay different, and each keeps its sort
+pub record AreNewNames (vs : List Var) (r : Var → Var) : Type 0 where
+  pub injective : (v w : Var) → var_in v vs ≡ true → var_in w vs ≡ true → r v ≡ r w → v ≡ w
+  pub sort : (v : Var) → var_in v vs ≡ true → (r v).sort ≡ v.sort
 
 -- the base under its new name, where there is one; a cardinality likewise
 abbrev pub rename_base : (Var → Var) → Option Var → Option Var
