@@ -3,7 +3,7 @@ use Rattle.std.proofs.Common.{◌≡◌, ◌∙◌, [], ◌∷◌, ◌++◌, Lis
 use Rattle.std.specs.List.{list_all, list_any}
 use Rattle.std.proofs.lemmas.Bool.{and_from, and_parts, cond-false, cond-true, cond_both, not-true, or_from, or_parts}
 use Rattle.std.proofs.lemmas.List.Folds.{list_any-append}
-use Rattle.cyp_goal.specs.Sorted.{all_new}
+use Rattle.cyp_goal.specs.Raw.{all_new}
 use Rattle.cyp_term.specs.Terms.{with_all_new, with_new, without_repeats}
 
 module _ {A : Type 0} (eq : A → A → Bool) where

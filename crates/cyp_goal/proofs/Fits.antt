@@ -3,7 +3,7 @@ use Rattle.std.proofs.Common.{◌≡◌, [], ◌∷◌, ◌++◌, List, Option, 
 use Rattle.std.specs.List.{list_all}
 use Rattle.std.proofs.lemmas.Bool.{and_from, and_parts}
 use Rattle.cyp_goal.proofs.AllNew.{all_new-without_repeats}
-use Rattle.cyp_goal.specs.Sorted.{all_new, arg_fits, chunk_fits, goal_fits, images_fit, link_fits, lit_fits, node_fits, set_fits, term_fits}
+use Rattle.cyp_goal.specs.Raw.{all_new, arg_fits, chunk_fits, goal_fits, images_fit, link_fits, lit_fits, node_fits, set_fits, term_fits}
 use Rattle.cyp_heap.specs.Chunks.{apply_arg, apply_card, apply_chunk, card_vars}
 use Rattle.cyp_heap.specs.Goals.{apply_bind, apply_link, apply_node, apply_set_bind}
 use Rattle.cyp_heap.specs.declared.chunk.Arg.{Arg}

@@ -3,7 +3,7 @@ use Rattle.std.proofs.Common.{◌≡◌, ◌∙◌, [], ◌∷◌, ◌++◌, Lis
 use Rattle.std.specs.List.{list_all, list_any}
 use Rattle.std.proofs.lemmas.List.{map-append, map_push}
 use Rattle.cyp_term.specs.Terms.{with_all_new, with_new, without_repeats, lists_eq}
-use Rattle.cyp_goal.specs.Sorted.{all_new}
+use Rattle.cyp_goal.specs.Raw.{all_new}
 
 -- a function at a choice is the choice of its values
 pub at_cond : {A B : Type 0} (g : A → B) (b : Bool) (x y : A) → cond b (g x) (g y) ≡ g (cond b x y)

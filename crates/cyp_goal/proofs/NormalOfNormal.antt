@@ -1,5 +1,5 @@
 -- The normal form of a normal form is that normal form.
-use Rattle.std.proofs.Common.{◌≡◌, ◌∙◌, [], ◌∷◌, ◌++◌, List, Option, Some, None, true, cond, ◌&&◌, not, map, length, ℕ, zero, suc, option_and_then, refl, ap, ap₂, sym, inl, inr, subst, ⊎_elim}
+use Rattle.std.proofs.Common.{◌≡◌, ◌∙◌, ◌++◌, Some, None, true, cond, ◌&&◌, not, length, ℕ, zero, suc, option_and_then, refl, ap, ap₂, sym, subst, ⊎_elim}
 use Rattle.std.specs.List.{list_all}
 use Rattle.std.specs.Option.{is_none}
 use Rattle.std.proofs.lemmas.Bool.{and_parts, both_ways, cond-true, false_from_ne_true, not-true, not_from_false}
@@ -17,24 +17,22 @@ use Rattle.cyp_goal.proofs.RenameSelf.{node_self, self}
 use Rattle.cyp_goal.proofs.RenameTidy.{tidy_node-rename}
 use Rattle.cyp_goal.proofs.RenameVars.{node_vars-rename, var_in-rename}
 use Rattle.cyp_goal.proofs.Renumber.{no_set, of_post, of_pure_post, renumber-renames}
-use Rattle.cyp_goal.proofs.SolveLeaves.{apart, solve_leaves}
+use Rattle.cyp_goal.proofs.SolveLeaves.{apart, post_at, pre_at, solve_leaves}
 use Rattle.cyp_goal.proofs.SolvedLits.{solved_any-rename, solved_eq-less, solved_eq-rename}
 use Rattle.cyp_goal.proofs.TidyLeaves.{IsTidy, tidy_leaves, tidy_same}
 use Rattle.cyp_goal.specs.Laws.{NormalOfNormal}
 use Rattle.cyp_goal.specs.Normal.{Renaming, keep_limits, normal, solve, tidy_node}
 use Rattle.cyp_goal.specs.Numbering.{new_name, renumber}
 use Rattle.cyp_goal.specs.Pruning.{prune}
-use Rattle.cyp_goal.specs.Solving.{first_solved, is_logical, solve_post, solve_pre, solved_any, solved_eq, substitute, with_post, with_pre}
-use Rattle.cyp_goal.specs.Sorted.{IsRaw, lit_fits}
+use Rattle.cyp_goal.specs.Solving.{first_solved, is_logical, solve_post, solve_pre, solved_any, solved_eq}
+use Rattle.cyp_goal.specs.Raw.{IsRaw, lit_fits}
 use Rattle.cyp_heap.specs.Chunks.{chunks_vars}
 use Rattle.cyp_heap.specs.Goals.{node_vars}
 use Rattle.cyp_heap.specs.Limits.{is_within_limits}
 use Rattle.cyp_heap.specs.declared.goal.Goal.{Goal}
 use Rattle.cyp_heap.specs.declared.goal.Node.{Node}
-use Rattle.cyp_term.proofs.Lists.{Among, Among-cases, each_at, each_from, filter_out, flat_in, map_from}
+use Rattle.cyp_term.proofs.Lists.{Among, Among-cases, Among-map, each_at, each_from, filter_out, flat_in, map_from}
 use Rattle.cyp_term.specs.Terms.{is_set_var, lit_vars, lits_vars, sort_eq, var_in}
-use Rattle.cyp_term.specs.declared.lit.Lit.{Lit}
-use Rattle.cyp_term.specs.declared.subst.Subst.{Subst}
 use Rattle.cyp_term.specs.declared.term.Sort.TheVariants.{Set}
 use Rattle.cyp_term.specs.declared.term.Var.{Var}
 
@@ -59,9 +57,9 @@ avoids_exist g f h =
 -- the steps before the last leave a reduced node
 reduced : (n s : Node) → IsRaw n → solve n ≡ Some s → IsReduced (prune (tidy_node s))
 reduced n s raw e =
-    let fits : FitNode no_set is_set_var n = node_parts no_set is_set_var n raw.sorted in
+    let fits : FitNode no_set is_set_var n = node_parts no_set is_set_var n raw.written in
     let t : Node = tidy_node s in
-    let tidy : IsTidy no_set is_set_var t = tidy_leaves no_set is_set_var s (solve_leaves no_set is_set_var n s fits (avoids_exist n.goal fits.pure_pre raw.closed) e) in
+    let tidy : IsTidy no_set is_set_var t = tidy_leaves no_set is_set_var s (solve_leaves no_set is_set_var n s fits (avoids_exist n.goal fits.pure_pre raw.exist_apart) e) in
     record {
       tidy = prune_leaves no_set is_set_var t tidy;
       pruned = prune_again t;
@@ -73,18 +71,6 @@ reduced n s raw e =
     }
 
 -- ---- solving does nothing where nothing can be solved
-
-abbrev pre_at : ℕ → Node → Option (Subst × List Lit) → Option Node
-pre_at k n o = elim o [
-  | None ↦ Some n
-  | Some p ↦ option_and_then (solve_pre k) (substitute p.0 (with_pre n p.1))
-]
-
-abbrev post_at : ℕ → Node → Option (Subst × List Lit) → Option Node
-post_at k n o = elim o [
-  | None ↦ Some n
-  | Some p ↦ option_and_then (solve_post k) (substitute p.0 (with_post n p.1))
-]
 
 pre_solved : (k : ℕ) (n : Node) → first_solved (solved_eq (is_logical n.goal)) n.goal.pure_pre ≡ None → solve_pre k n ≡ Some n
 pre_solved zero n e = refl
@@ -139,12 +125,7 @@ module _ (n : Node) (is : IsReduced n) where
   renamed_exist : (v : Var) → Among v m.goal.exist → Among v (node_vars m)
   renamed_exist v k =
       let w = map_from r v n.goal.exist k in
-      subst (Among v) (sym (node_vars-rename r renames n)) (rw w.2 (renamed_in w.0 (node_vars n) (is.exist_used w.0 w.1)))
-    where
-      renamed_in : (w : Var) (ws : List Var) → Among w ws → Among (r w) (map r ws)
-      renamed_in w [] i = absurd i
-      renamed_in w (x ∷ xs) (inl e) = inl (ap r e)
-      renamed_in w (x ∷ xs) (inr i) = inr (renamed_in w xs i)
+      subst (Among v) (sym (node_vars-rename r renames n)) (rw w.2 (Among-map r w.0 (node_vars n) (is.exist_used w.0 w.1)))
 
   renumber_numbered : renumber m ≡ m
   renumber_numbered =

@@ -11,7 +11,7 @@ use Rattle.cyp_goal.proofs.SolvedLits.{solved_any-less, solved_eq-less}
 use Rattle.cyp_goal.proofs.TidyLeaves.{AddressLit, IsTidy, address_lit}
 use Rattle.cyp_goal.specs.Pruning.{is_kept, live_vars, only_vars, prune, touches}
 use Rattle.cyp_goal.specs.Solving.{solved_any, solved_eq}
-use Rattle.cyp_goal.specs.Sorted.{images_fit, link_fits, lit_fits, set_fits, term_fits}
+use Rattle.cyp_goal.specs.Raw.{images_fit, link_fits, lit_fits, set_fits, term_fits}
 use Rattle.cyp_goal.specs.Tidying.{address, is_plainly_true}
 use Rattle.cyp_heap.specs.Chunks.{chunk_vars, chunks_vars}
 use Rattle.cyp_heap.specs.Goals.{tuple_vars}

@@ -39,7 +39,8 @@ rank_least k (u ∷ us) v =
     omega arith)
     (cases_Bool (var_eq u v))
 
-among_rest : (u : Var) (us : List Var) (v : Var) → var_eq u v ≡ false → Among v (u ∷ us) → Among v us
+-- a variable that isn't the first is among the rest
+pub among_rest : (u : Var) (us : List Var) (v : Var) → var_eq u v ≡ false → Among v (u ∷ us) → Among v us
 among_rest u us v e (inl s) = absurd (both_ways (var_eq u v) e ((Decides-var_eq u v).1 (sym s)))
 among_rest u us v e (inr k) = k
 

@@ -5,7 +5,7 @@ use Rattle.cyp_goal.proofs.Fits.{FitNode}
 use Rattle.cyp_goal.proofs.Maps.{all_new-map, list_all-map}
 use Rattle.cyp_goal.proofs.Rename.{IsRenaming, rename_arg, rename_base, rename_chunk, rename_images, rename_link, rename_lit, rename_node, rename_set, rename_term, term_eq-rename}
 use Rattle.cyp_goal.proofs.RenameVars.{rename_int_bind, rename_set_bind}
-use Rattle.cyp_goal.specs.Sorted.{arg_fits, chunk_fits, images_fit, link_fits, lit_fits, set_fits, term_fits}
+use Rattle.cyp_goal.specs.Raw.{arg_fits, chunk_fits, images_fit, link_fits, lit_fits, set_fits, term_fits}
 use Rattle.cyp_heap.specs.Chunks.{card_vars}
 use Rattle.cyp_heap.specs.declared.chunk.Arg.{Arg}
 use Rattle.cyp_heap.specs.declared.chunk.Arg.TheVariants.{Int as IntArg, Set as SetArg}

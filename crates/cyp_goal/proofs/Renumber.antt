@@ -1,14 +1,15 @@
 -- Numbering anew is a renaming.
-use Rattle.std.proofs.Common.{◌≡◌, ◌∙◌, [], ◌∷◌, ◌++◌, List, Option, Some, None, Bool, true, false, ◌&&◌, not, map, filter, flat_map, refl, ap, ap₂, sym, inl, inr}
+use Rattle.std.proofs.Common.{◌≡◌, ◌∙◌, [], ◌∷◌, ◌++◌, List, Option, Some, None, Bool, true, ◌&&◌, not, map, filter, flat_map, refl, ap, ap₂, inl, inr}
 use Rattle.std.specs.List.{list_all}
-use Rattle.std.proofs.lemmas.Bool.{and_parts, both_ways, cond_both}
+use Rattle.std.proofs.lemmas.Bool.{and_parts, cond_both}
 use Rattle.cyp_goal.proofs.AllNew.{without_repeats-all_new}
 use Rattle.cyp_goal.proofs.Fits.{FitNode, FitSet, set_parts}
 use Rattle.cyp_goal.proofs.Maps.{without_repeats-map}
+use Rattle.cyp_goal.proofs.Ranks.{among_rest}
 use Rattle.cyp_goal.proofs.Rename.{IsRenaming, rename_arg, rename_base, rename_chunk, rename_images, rename_link, rename_lit, rename_node, rename_set, rename_term, term_eq-rename}
 use Rattle.cyp_goal.proofs.RenameVars.{link_vars, rename_int_bind, rename_set_bind}
 use Rattle.cyp_goal.specs.Numbering.{new_name, numbering, renumber}
-use Rattle.cyp_goal.specs.Sorted.{arg_fits, chunk_fits, images_fit, link_fits, lit_fits, set_fits, term_fits}
+use Rattle.cyp_goal.specs.Raw.{arg_fits, chunk_fits, images_fit, link_fits, lit_fits, set_fits, term_fits}
 use Rattle.cyp_heap.specs.Chunks.{apply_arg, apply_card, apply_chunk, arg_vars, card_vars, chunk_vars, chunks_vars}
 use Rattle.cyp_heap.specs.Goals.{apply_bind, apply_link, apply_set_bind, goal_vars, image_vars, node_vars}
 use Rattle.cyp_heap.specs.declared.chunk.Arg.{Arg}
@@ -34,21 +35,17 @@ use Rattle.cyp_term.specs.declared.term.Var.{Var}
 
 -- ---- images of a map that binds each variable of a list
 
-later_one : (u v : Var) (us : List Var) → var_eq u v ≡ false → Among v (u ∷ us) → Among v us
-later_one u v us e (inl s) = absurd (both_ways (var_eq u v) e ((Decides-var_eq u v).1 (sym s)))
-later_one u v us e (inr k) = k
-
 int_image_at : (f : Var → Term) (us : List Var) (v : Var) → Among v us → int_image (map (λ w. record { var = w; to = f w }) us) v ≡ Some (f v)
 int_image_at f [] v k = absurd k
 int_image_at f (u ∷ us) v k =
     cond_both (var_eq u v) (Some (f u)) (int_image (map (λ w. record { var = w; to = f w }) us) v) (λ o. o ≡ Some (f v))
-    (λ e. ap (λ w. Some (f w)) ((Decides-var_eq u v).0 e)) (λ e. int_image_at f us v (later_one u v us e k))
+    (λ e. ap (λ w. Some (f w)) ((Decides-var_eq u v).0 e)) (λ e. int_image_at f us v (among_rest u us v e k))
 
 set_image_at : (f : Var → SetTerm) (us : List Var) (v : Var) → Among v us → set_image (map (λ w. record { var = w; to = f w }) us) v ≡ Some (f v)
 set_image_at f [] v k = absurd k
 set_image_at f (u ∷ us) v k =
     cond_both (var_eq u v) (Some (f u)) (set_image (map (λ w. record { var = w; to = f w }) us) v) (λ o. o ≡ Some (f v))
-    (λ e. ap (λ w. Some (f w)) ((Decides-var_eq u v).0 e)) (λ e. set_image_at f us v (later_one u v us e k))
+    (λ e. ap (λ w. Some (f w)) ((Decides-var_eq u v).0 e)) (λ e. set_image_at f us v (among_rest u us v e k))
 
 map_where : {A B : Type 0} (f g : A → B) (xs : List A) → ((x : A) → Among x xs → f x ≡ g x) → map f xs ≡ map g xs
 map_where f g [] h = refl

@@ -10,7 +10,7 @@ use Rattle.cyp_goal.proofs.Fits.{FitNode, ImagesFit, lit_fits-at, lits_fit-apply
 use Rattle.cyp_goal.proofs.SolvedLits.{SolvesFor, solved_any-by, solved_eq-by, solved_eq-less}
 use Rattle.cyp_goal.specs.Normal.{solve}
 use Rattle.cyp_goal.specs.Solving.{first_solved, is_logical, solve_post, solve_pre, solved_any, solved_eq, substitute, wide_subst, with_post, with_pre}
-use Rattle.cyp_goal.specs.Sorted.{lit_fits, term_fits}
+use Rattle.cyp_goal.specs.Raw.{lit_fits, term_fits}
 use Rattle.cyp_heap.specs.Goals.{apply_node, wide_node}
 use Rattle.cyp_heap.specs.declared.goal.Node.{Node}
 use Rattle.cyp_term.proofs.Lists.{each_at, each_from}
@@ -29,6 +29,19 @@ cond_other false x y e = same_Some x y e
 abbrev pub apart : List Var → Var → Bool
 apart vs v = not (var_in v vs)
 
+-- the turns that are left, by what is found
+abbrev pub pre_at : ℕ → Node → Option (Subst × List Lit) → Option Node
+pre_at k n o = elim o [
+  | None ↦ Some n
+  | Some p ↦ option_and_then (solve_pre k) (substitute p.0 (with_pre n p.1))
+]
+
+abbrev pub post_at : ℕ → Node → Option (Subst × List Lit) → Option Node
+post_at k n o = elim o [
+  | None ↦ Some n
+  | Some p ↦ option_and_then (solve_post k) (substitute p.0 (with_post n p.1))
+]
+
 module _ (p q : Var → Bool) where
   -- ---- the precondition
   pub record PreSolved (n m : Node) : Type 0 where
@@ -37,12 +50,6 @@ module _ (p q : Var → Bool) where
     pub fits : FitNode p q m
     pub avoids : list_all (lit_fits (apart n.goal.exist) (apart n.goal.exist)) m.goal.pure_pre ≡ true
     pub none : list_all (λ l. is_none (solved_eq (is_logical n.goal) l)) m.goal.pure_pre ≡ true
-
-  abbrev pre_at : ℕ → Node → Option (Subst × List Lit) → Option Node
-  pre_at k n o = elim o [
-    | None ↦ Some n
-    | Some p ↦ option_and_then (solve_pre k) (substitute p.0 (with_pre n p.1))
-  ]
 
   fewer_lits : (test : Lit → Bool) (ls : List Lit) (f : Lit → Option Subst) (s : Subst × List Lit) → Found f ls s → list_all test ls ≡ true → list_all test s.1 ≡ true
   fewer_lits test ls f s d h = each_from test s.1 (λ x k. each_at test x ls h (d.among x k))
@@ -107,12 +114,6 @@ module _ (p q : Var → Bool) where
     pub fits : FitNode p q m
     pub none_pre : list_all (λ l. is_none (solved_eq (apart n.goal.program) l)) m.goal.pure_pre ≡ true
     pub none_post : list_all (λ l. is_none (solved_any (λ v. var_in v n.goal.exist) l)) m.goal.pure_post ≡ true
-
-  abbrev post_at : ℕ → Node → Option (Subst × List Lit) → Option Node
-  post_at k n o = elim o [
-    | None ↦ Some n
-    | Some p ↦ option_and_then (solve_post k) (substitute p.0 (with_post n p.1))
-  ]
 
   -- a substitution that binds existentials alone leaves the terms of the precondition
   module _ (exist : List Var) (by : Subst) (solves : SolvesFor (λ v. var_in v exist) p q by) where

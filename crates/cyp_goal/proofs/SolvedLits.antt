@@ -7,7 +7,7 @@ use Rattle.cyp_goal.proofs.Fits.{ImagesFit}
 use Rattle.cyp_goal.proofs.Rename.{IsRenaming, base_eq-rename, rename_base, rename_lit, rename_set, rename_term}
 use Rattle.cyp_goal.proofs.RenameVars.{var_in-rename}
 use Rattle.cyp_goal.specs.Solving.{bind_int, bind_set, first_some, solved_any, solved_base, solved_eq, solved_parts, solved_set, solved_side}
-use Rattle.cyp_goal.specs.Sorted.{lit_fits, set_fits, term_fits}
+use Rattle.cyp_goal.specs.Raw.{lit_fits, set_fits, term_fits}
 use Rattle.cyp_term.proofs.Equality.{Decides-var_eq}
 use Rattle.cyp_term.proofs.Lists.{Among, Among-left, Among-right}
 use Rattle.cyp_term.specs.Terms.{base_eq, base_vars, int_image, lit_vars, plus, set_image, sort_eq, term_vars, var_eq, var_in}

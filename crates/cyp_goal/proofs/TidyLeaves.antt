@@ -10,7 +10,7 @@ use Rattle.cyp_goal.proofs.LitEquality.{Decides-lit_eq, lit_self}
 use Rattle.cyp_goal.proofs.SolveLeaves.{IsSolved, apart}
 use Rattle.cyp_goal.specs.Normal.{tidy_node}
 use Rattle.cyp_goal.specs.Solving.{solved_any, solved_eq}
-use Rattle.cyp_goal.specs.Sorted.{all_new, chunk_fits, lit_fits, term_fits}
+use Rattle.cyp_goal.specs.Raw.{all_new, chunk_fits, lit_fits, term_fits}
 use Rattle.cyp_goal.specs.Tidying.{above_zero, address, address_lits, is_plainly_true, least_of, offsets_at, tidy_lits}
 use Rattle.cyp_heap.specs.declared.chunk.Chunk.{Chunk}
 use Rattle.cyp_heap.specs.declared.chunk.Chunk.TheVariants.{Block, Cell, Inst}

@@ -1,7 +1,7 @@
 -- What is proved of the definitions.
 use Rattle.std.specs.Prelude.{Some, ◌≡◌}
 use Rattle.cyp_goal.specs.Normal.{Renaming, normal}
-use Rattle.cyp_goal.specs.Sorted.{IsRaw}
+use Rattle.cyp_goal.specs.Raw.{IsRaw}
 use Rattle.cyp_heap.specs.declared.goal.Node.{Node}
 
 -- the normal form of a normal form is that normal form, under the names that it has

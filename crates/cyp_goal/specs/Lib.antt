@@ -4,7 +4,7 @@ pub mod Pruning
 pub mod Numbering
 pub mod Normal
 pub mod Facts
-pub mod Sorted
+pub mod Raw
 pub mod Laws
 pub mod Renamed
 pub mod RenamingLaw

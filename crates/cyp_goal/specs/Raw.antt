@@ -78,15 +78,12 @@ node_fits p q n = goal_fits p q n.goal && list_all (link_fits p q) n.links
 
 -- ---- what is asked
 
--- no set variable stands where an integer is meant, and no other where a set is; no part of a set term stands twice
-abbrev pub is_sorted : Node → Bool
-is_sorted n = node_fits (λ v. not (is_set_var v)) is_set_var n
+-- no set variable stands in the place of an integer and no other in that of a set, and no part of a set term stands twice
+abbrev pub is_well_written : Node → Bool
+is_well_written n = node_fits (λ v. not (is_set_var v)) is_set_var n
 
--- no existential stands in the pure precondition
-abbrev pub is_pre_closed : Goal → Bool
-is_pre_closed g = list_all (λ v. not (var_in v (lits_vars g.pure_pre))) g.exist
-
--- a node whose variables have the sorts of their places and whose pure precondition has no existential
+-- what the law of normal forms asks of a node that is brought into normal form
 pub record IsRaw (n : Node) : Type 0 where
-  pub sorted : IsTrue (is_sorted n)
-  pub closed : IsTrue (is_pre_closed n.goal)
+  pub written : IsTrue (is_well_written n)
+  -- no existential stands in the pure precondition
+  pub exist_apart : IsTrue (list_all (λ v. not (var_in v (lits_vars n.goal.pure_pre))) n.goal.exist)
