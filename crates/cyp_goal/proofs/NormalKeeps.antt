@@ -12,7 +12,7 @@ use Rattle.cyp_goal.proofs.TidyLeaves.{address_lit_fits, addresses_fit, post_eac
 use Rattle.cyp_goal.specs.Normal.{solve, tidy_node}
 use Rattle.cyp_goal.specs.Pruning.{is_kept, prune}
 use Rattle.cyp_goal.specs.Solving.{first_solved, is_logical, solve_post, solve_pre, solved_any, solved_eq, substitute, wide_subst, with_post, with_pre}
-use Rattle.cyp_goal.specs.Sorted.{lit_fits}
+use Rattle.cyp_goal.specs.Raw.{lit_fits}
 use Rattle.cyp_goal.specs.Tidying.{address}
 use Rattle.cyp_heap.specs.Goals.{apply_node, wide_node}
 use Rattle.cyp_heap.specs.declared.goal.Goal.{Goal}
