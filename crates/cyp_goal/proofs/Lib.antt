@@ -23,4 +23,5 @@ pub mod Renumber
 pub mod NormalOfNormal
 pub mod NormalKeeps
 pub mod Extended
+pub mod RenameNumbers
 pub mod RenameNormal

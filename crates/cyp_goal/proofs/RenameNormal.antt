@@ -1,13 +1,13 @@
 -- The normal form of a node under new names.
 use Rattle.std.proofs.Common.{◌≡◌, ◌∙◌, ◌⊎◌, [], ◌∷◌, ◌++◌, List, Option, Some, None, Bool, true, false, cond, not, map, filter, option_and_then, option_map, Decides, refl, ap, ap₂, sym, inl, inr, subst, ⊎_elim}
 use Rattle.std.proofs.lemmas.Option.{cond_some, option_and_then_some}
-use Rattle.cyp_goal.proofs.Fits.{FitNode, node_parts}
 use Rattle.cyp_goal.proofs.Live.{among_in, in_among}
 use Rattle.cyp_goal.proofs.Maps.{at_cond}
-use Rattle.cyp_goal.proofs.NormalKeeps.{Kept, prune_keeps, solve_keeps, tidy_keeps}
+use Rattle.cyp_goal.proofs.NormalKeeps.{HasSorts, Kept, has_sorts, prune_keeps, solve_keeps, tidy_keeps}
 use Rattle.cyp_goal.proofs.Ranks.{IsRenaming-name_in, name_in, name_in-new, rank_in-rename}
 use Rattle.cyp_goal.proofs.Rename.{IsRenaming, rename_node}
 use Rattle.cyp_goal.proofs.RenameFits.{fit_renamed}
+use Rattle.cyp_goal.proofs.RenameNumbers.{renumber-rename}
 use Rattle.cyp_goal.proofs.RenamePrune.{prune-rename}
 use Rattle.cyp_goal.proofs.RenameSolve.{solve-rename}
 use Rattle.cyp_goal.proofs.RenameTidy.{tidy_node-rename}
@@ -41,33 +41,6 @@ abbrev finish : Node → Option Renaming
 finish m = keep_limits (prune (tidy_node m))
 
 module _ (r : Var → Var) (is : IsRenaming r) where
-  -- ---- numbers
-
-  abbrev after : (Var → Var) → Var → Var
-  after s v = s (r v)
-
-  after_renames : (s : Var → Var) → IsRenaming s → IsRenaming (after s)
-  after_renames s so = record { apart = λ v w. so.apart (r v) (r w) ∙ is.apart v w; sort = λ v. so.sort (r v) ∙ is.sort v }
-
-  -- the place of a variable under its new name is the place that it had
-  new_name-rename : (vs : List Var) (v : Var) → new_name (map r vs) (r v) ≡ new_name vs v
-  new_name-rename vs v = λ i. record { sort = is.sort v i; number = rank_in-rename r is vs v i }
-
-  -- the numbers of a node don't depend on its names, where each variable has the sort of its place and each existential stands somewhere
-  renumber-rename : (n : Node) → FitNode no_set is_set_var n → ((v : Var) → Among v n.goal.exist → Among v (node_vars n)) → renumber (rename_node r n) ≡ renumber n
-  renumber-rename n fits used =
-      let vs : List Var = node_vars n in
-      let ws : List Var = node_vars (rename_node r n) in
-      let s : Var → Var = name_in ws in
-      let is_map : ws ≡ map r vs = node_vars-rename r is n in
-      let there : (v : Var) → Among v vs → Among (r v) ws = λ v k. subst (Among (r v)) (sym is_map) (Among-map r v vs k) in
-      renumber-renames (rename_node r n) s (IsRenaming-name_in ws) (name_in-new ws)
-      (fit_renamed r is no_set is_set_var (λ v. ap (λ t. not (sort_eq t Set)) (is.sort v)) (λ v. ap (λ t. sort_eq t Set) (is.sort v)) n fits)
-      (λ v k. let w = map_from r v n.goal.exist k in subst (λ u. Among u ws) (sym w.2) (there w.0 (used w.0 w.1)))
-      ∙ node_twice r s (after s) n (λ v k. refl) (λ v k. refl)
-      ∙ sym (renumber-renames n (after s) (after_renames s (IsRenaming-name_in ws))
-      (λ v k. sym (new_name-rename vs v) ∙ ap (λ us. new_name us (r v)) (sym is_map) ∙ name_in-new ws (r v) (there v k)) fits used)
-
   -- ---- the steps behind solving
 
   limits-rename : (n m : Node) → renumber m ≡ renumber n → m.goal.program ≡ map r n.goal.program → keep_limits m ≡ option_map (renamed_old r) (keep_limits n)
@@ -75,35 +48,28 @@ module _ (r : Var → Var) (is : IsRenaming r) where
       (λ i. cond (is_within_limits (e i)) (Some (record { node = e i; old = h i })) None)
       ∙ at_cond (option_map (renamed_old r)) (is_within_limits (renumber n)) (Some (record { node = renumber n; old = n.goal.program })) None
 
-  exist_used : (t : Node) (v : Var) → Among v (prune t).goal.exist → Among v (node_vars (prune t))
-  exist_used t v k =
-      ⊎_elim (of_post (prune t) v) (of_pure_post (prune t) v)
-      (Among-cases v (chunks_vars t.goal.post.chunks) (lits_vars t.goal.pure_post)
-      (in_among v (chunks_vars t.goal.post.chunks ++ lits_vars t.goal.pure_post)
-      (filter_out (λ w. var_in w (chunks_vars t.goal.post.chunks ++ lits_vars t.goal.pure_post)) v t.goal.exist k).1))
-
-  finish-rename : (m : Node) → FitNode no_set is_set_var m → finish (rename_node r m) ≡ option_map (renamed_old r) (finish m)
+  finish-rename : (m : Node) → HasSorts no_set is_set_var m → finish (rename_node r m) ≡ option_map (renamed_old r) (finish m)
   finish-rename m fits =
       let t : Node = tidy_node m in
       ap keep_limits (ap prune (tidy_node-rename r is m) ∙ prune-rename r is t)
       ∙ limits-rename (prune t) (rename_node r (prune t))
-      (renumber-rename (prune t) (prune_keeps no_set is_set_var t (tidy_keeps no_set is_set_var m fits)) (exist_used t)) refl
+      (renumber-rename r is (prune t) (prune_keeps no_set is_set_var t (tidy_keeps no_set is_set_var m fits))) refl
 
   -- ---- all steps
 
-  finish_all : (o : Option Node) → ((m : Node) → o ≡ Some m → FitNode no_set is_set_var m)
+  finish_all : (o : Option Node) → ((m : Node) → o ≡ Some m → HasSorts no_set is_set_var m)
       → option_and_then finish (option_map (rename_node r) o) ≡ option_map (renamed_old r) (option_and_then finish o)
   finish_all None h = refl
   finish_all (Some m) h = finish-rename m (h m refl)
 
-  normal-rename : (n : Node) → FitNode no_set is_set_var n → normal (rename_node r n) ≡ option_map (renamed_old r) (normal n)
+  normal-rename : (n : Node) → HasSorts no_set is_set_var n → normal (rename_node r n) ≡ option_map (renamed_old r) (normal n)
   normal-rename n fits =
       ap (option_and_then finish) (solve-rename r is n) ∙ finish_all (solve n) (λ m e. let k : Kept no_set is_set_var n m = solve_keeps no_set is_set_var n m fits e in k.fits)
 
 -- ---- the names before
 
 -- the program variables that are left are some of those that were there
-old_among : (n : Node) (x : Renaming) → FitNode no_set is_set_var n → normal n ≡ Some x → (v : Var) → Among v x.old → Among v n.goal.program
+old_among : (n : Node) (x : Renaming) → HasSorts no_set is_set_var n → normal n ≡ Some x → (v : Var) → Among v x.old → Among v n.goal.program
 old_among n x fits e v k =
     option_and_then_some finish (solve n) x e (λ m solved kept.
     let y : Node = prune (tidy_node m) in
@@ -133,7 +99,7 @@ pub renaming_law : RenamingLaw
 renaming_law r n is sorted =
     let vs : List Var = known_vars n in
     let e : Var → Var = extended r vs is in
-    let fits : FitNode no_set is_set_var n = node_parts no_set is_set_var n sorted in
+    let fits : HasSorts no_set is_set_var n = has_sorts no_set is_set_var n sorted in
     let same : (v : Var) → Among v vs → e v ≡ r v = extended_same r vs is in
     let node = ap (rename_node e) (sym (node_self n))
     ∙ node_twice self e r n (λ v k. same v (Among-left v (node_vars n) n.goal.exist k)) (λ v k. same v (Among-right v (node_vars n) n.goal.exist k)) in
@@ -146,6 +112,6 @@ pub logical_renaming_law : LogicalRenamingLaw
 logical_renaming_law r n is sorted stay =
     renaming_law r n is sorted
     ∙ old_stays (renamed_old r) (normal n) (λ x found.
-    let old = same_names r self x.old (λ v k. stay v (among_in v n.goal.program (old_among n x (node_parts no_set is_set_var n sorted) found v k)))
+    let old = same_names r self x.old (λ v k. stay v (among_in v n.goal.program (old_among n x (has_sorts no_set is_set_var n sorted) found v k)))
     ∙ map_self self (λ v. refl) x.old in
     λ i. record { node = x.node; old = old i })

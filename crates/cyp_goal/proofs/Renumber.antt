@@ -35,13 +35,13 @@ use Rattle.cyp_term.specs.declared.term.Var.{Var}
 
 -- ---- images of a map that binds each variable of a list
 
-int_image_at : (f : Var → Term) (us : List Var) (v : Var) → Among v us → int_image (map (λ w. record { var = w; to = f w }) us) v ≡ Some (f v)
+pub int_image_at : (f : Var → Term) (us : List Var) (v : Var) → Among v us → int_image (map (λ w. record { var = w; to = f w }) us) v ≡ Some (f v)
 int_image_at f [] v k = absurd k
 int_image_at f (u ∷ us) v k =
     cond_both (var_eq u v) (Some (f u)) (int_image (map (λ w. record { var = w; to = f w }) us) v) (λ o. o ≡ Some (f v))
     (λ e. ap (λ w. Some (f w)) ((Decides-var_eq u v).0 e)) (λ e. int_image_at f us v (among_rest u us v e k))
 
-set_image_at : (f : Var → SetTerm) (us : List Var) (v : Var) → Among v us → set_image (map (λ w. record { var = w; to = f w }) us) v ≡ Some (f v)
+pub set_image_at : (f : Var → SetTerm) (us : List Var) (v : Var) → Among v us → set_image (map (λ w. record { var = w; to = f w }) us) v ≡ Some (f v)
 set_image_at f [] v k = absurd k
 set_image_at f (u ∷ us) v k =
     cond_both (var_eq u v) (Some (f u)) (set_image (map (λ w. record { var = w; to = f w }) us) v) (λ o. o ≡ Some (f v))
