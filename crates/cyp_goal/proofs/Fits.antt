@@ -3,7 +3,7 @@ use Rattle.std.proofs.Common.{◌≡◌, [], ◌∷◌, ◌++◌, List, Option, 
 use Rattle.std.specs.List.{list_all}
 use Rattle.std.proofs.lemmas.Bool.{and_from, and_parts}
 use Rattle.cyp_goal.proofs.AllNew.{all_new-without_repeats}
-use Rattle.cyp_goal.specs.Raw.{all_new, arg_fits, chunk_fits, goal_fits, images_fit, link_fits, lit_fits, node_fits, set_fits, term_fits}
+use Rattle.cyp_goal.specs.Raw.{lit_once, set_once, all_new, arg_fits, chunk_fits, goal_fits, images_fit, link_fits, lit_fits, node_fits, set_fits, term_fits}
 use Rattle.cyp_heap.specs.Chunks.{apply_arg, apply_card, apply_chunk, card_vars}
 use Rattle.cyp_heap.specs.Goals.{apply_bind, apply_link, apply_node, apply_set_bind}
 use Rattle.cyp_heap.specs.declared.chunk.Arg.{Arg}
@@ -26,26 +26,17 @@ use Rattle.cyp_term.specs.declared.subst.Subst.{Subst}
 use Rattle.cyp_term.specs.declared.term.Term.{Term}
 use Rattle.cyp_term.specs.declared.term.Var.{Var}
 
--- ---- the four facts of a set term
+-- ---- the two facts of a set term
 module _ (p q : Var → Bool) (u : SetTerm) where
   pub record FitSet : Type 0 where
     pub vars : list_all q u.vars ≡ true
     pub elems : list_all (term_fits p) u.elems ≡ true
-    pub vars_once : all_new var_eq [] u.vars ≡ true
-    pub elems_once : all_new term_eq [] u.elems ≡ true
 
   pub set_parts : set_fits p q u ≡ true → FitSet
-  set_parts h =
-      let c = and_parts (list_all q u.vars && list_all (term_fits p) u.elems && all_new var_eq [] u.vars) (all_new term_eq [] u.elems) h in
-      let b = and_parts (list_all q u.vars && list_all (term_fits p) u.elems) (all_new var_eq [] u.vars) c.0 in
-      let a = and_parts (list_all q u.vars) (list_all (term_fits p) u.elems) b.0 in
-      record { vars = a.0; elems = a.1; vars_once = b.1; elems_once = c.1 }
+  set_parts h = let a = and_parts (list_all q u.vars) (list_all (term_fits p) u.elems) h in record { vars = a.0; elems = a.1 }
 
   pub set_from : FitSet → set_fits p q u ≡ true
-  set_from f =
-      and_from (list_all q u.vars && list_all (term_fits p) u.elems && all_new var_eq [] u.vars) (all_new term_eq [] u.elems)
-      (and_from (list_all q u.vars && list_all (term_fits p) u.elems) (all_new var_eq [] u.vars)
-      (and_from (list_all q u.vars) (list_all (term_fits p) u.elems) f.vars f.elems) f.vars_once) f.elems_once
+  set_from f = and_from (list_all q u.vars) (list_all (term_fits p) u.elems) f.vars f.elems
 
 -- ---- each variable
 module _ (p : Var → Bool) where
@@ -88,13 +79,10 @@ module _ (p q p' : Var → Bool) where
 
   set_other : (u : SetTerm) → set_fits p q u ≡ true → ((v : Var) → Among v (set_vars u) → p' v ≡ true) → set_fits p' p' u ≡ true
   set_other u f h =
-      let s = set_parts p q u f in
       set_from p' p' u (record {
         vars = each_from p' u.vars (λ v k. h v (Among-left v u.vars (flat_map (λ t. term_vars t) u.elems) k));
         elems = each_from (term_fits p') u.elems (λ t k. term_other t (λ v m.
             h v (Among-right v u.vars (flat_map (λ t. term_vars t) u.elems) (flat_in (λ t. term_vars t) v t u.elems k m))));
-        vars_once = s.vars_once;
-        elems_once = s.elems_once;
       })
 
   two_terms_other : (a b : Term) → (term_fits p a && term_fits p b) ≡ true → ((v : Var) → Among v (term_vars a ++ term_vars b) → p' v ≡ true) → (term_fits p' a && term_fits p' b) ≡ true
@@ -179,8 +167,6 @@ module _ (p q : Var → Bool) (by : Subst) (fit : ImagesFit p q by) where
       set_from p q (apply_set by u) (record {
         vars = each_from q (apply_set by u).vars (vars_fit u f);
         elems = each_from (term_fits p) (apply_set by u).elems (elems_fit u f);
-        vars_once = all_new-without_repeats var_eq (flat_map (λ (i : SetTerm). i.vars) (map image u.vars));
-        elems_once = all_new-without_repeats term_eq (flat_map (λ (i : SetTerm). i.elems) (map image u.vars) ++ map (apply_term by) u.elems);
       })
 
   both_fit : (a b a' b' : Bool) → (a ≡ true → a' ≡ true) → (b ≡ true → b' ≡ true) → (a && b) ≡ true → (a' && b') ≡ true
@@ -245,6 +231,30 @@ module _ (p q : Var → Bool) (by : Subst) (fit : ImagesFit p q by) where
       (all_fit (λ (b : IntBind). term_fits p b.to) (λ (b : IntBind). term_fits p b.to) (apply_bind by) (λ b. term_fits-apply b.to) k.map.ints)
       (all_fit (λ (b : SetBind). set_fits p q b.to) (λ (b : SetBind). set_fits p q b.to) (apply_set_bind by) (λ b. set_fits-apply b.to) k.map.sets)) h
 
+-- ---- a substitution leaves no repeats
+set_once-apply : (by : Subst) (u : SetTerm) → set_once (apply_set by u) ≡ true
+set_once-apply by u =
+    let images : List SetTerm = map (λ v. image_or_self v (set_image by.sets v)) u.vars in
+    and_from (all_new var_eq [] (apply_set by u).vars) (all_new term_eq [] (apply_set by u).elems)
+    (all_new-without_repeats var_eq (flat_map (λ (i : SetTerm). i.vars) images))
+    (all_new-without_repeats term_eq (flat_map (λ (i : SetTerm). i.elems) images ++ map (apply_term by) u.elems))
+
+two_once : (by : Subst) (a b : SetTerm) → (set_once (apply_set by a) && set_once (apply_set by b)) ≡ true
+two_once by a b = and_from (set_once (apply_set by a)) (set_once (apply_set by b)) (set_once-apply by a) (set_once-apply by b)
+
+lit_once-apply : (by : Subst) (l : Lit) → lit_once (apply_lit by l) ≡ true
+lit_once-apply by (Same a b) = two_once by a b
+lit_once-apply by (NotSame a b) = two_once by a b
+lit_once-apply by (Member t b) = set_once-apply by b
+lit_once-apply by (NotMember t b) = set_once-apply by b
+lit_once-apply by (Sub a b) = two_once by a b
+lit_once-apply by (NotSub a b) = two_once by a b
+lit_once-apply by _ = refl
+
+lits_once-apply : (by : Subst) (ls : List Lit) → list_all lit_once (map (apply_lit by) ls) ≡ true
+lits_once-apply by [] = refl
+lits_once-apply by (l ∷ ls) = and_from (lit_once (apply_lit by l)) (list_all lit_once (map (apply_lit by) ls)) (lit_once-apply by l) (lits_once-apply by ls)
+
 -- ---- the parts of a node
 module _ (p q : Var → Bool) where
   pub record FitNode (n : Node) : Type 0 where
@@ -253,15 +263,17 @@ module _ (p q : Var → Bool) where
     pub pure_post : list_all (lit_fits p q) n.goal.pure_post ≡ true
     pub post : list_all (chunk_fits p q) n.goal.post.chunks ≡ true
     pub links : list_all (link_fits p q) n.links ≡ true
+    pub pre_once : list_all lit_once n.goal.pure_pre ≡ true
+    pub post_once : list_all lit_once n.goal.pure_post ≡ true
 
-  pub node_parts : (n : Node) → node_fits p q n ≡ true → FitNode n
-  node_parts n h =
+  pub node_parts : (n : Node) → node_fits p q n ≡ true → list_all lit_once n.goal.pure_pre ≡ true → list_all lit_once n.goal.pure_post ≡ true → FitNode n
+  node_parts n h pre_once post_once =
       let g : Goal = n.goal in
       let d = and_parts (goal_fits p q g) (list_all (link_fits p q) n.links) h in
       let c = and_parts (list_all (lit_fits p q) g.pure_pre && list_all (chunk_fits p q) g.pre.chunks && list_all (lit_fits p q) g.pure_post) (list_all (chunk_fits p q) g.post.chunks) d.0 in
       let b = and_parts (list_all (lit_fits p q) g.pure_pre && list_all (chunk_fits p q) g.pre.chunks) (list_all (lit_fits p q) g.pure_post) c.0 in
       let a = and_parts (list_all (lit_fits p q) g.pure_pre) (list_all (chunk_fits p q) g.pre.chunks) b.0 in
-      record { pure_pre = a.0; pre = a.1; pure_post = b.1; post = c.1; links = d.1 }
+      record { pure_pre = a.0; pre = a.1; pure_post = b.1; post = c.1; links = d.1; pre_once = pre_once; post_once = post_once }
 
   pub node_fits-apply : (by : Subst) → ImagesFit p q by → (n : Node) → FitNode n → FitNode (apply_node by n)
   node_fits-apply by fit n f = record {
@@ -270,4 +282,6 @@ module _ (p q : Var → Bool) where
     pure_post = lits_fit-apply p q by fit n.goal.pure_post f.pure_post;
     post = all_fit p q by fit (chunk_fits p q) (chunk_fits p q) (apply_chunk by) (chunk_fits-apply p q by fit) n.goal.post.chunks f.post;
     links = all_fit p q by fit (link_fits p q) (link_fits p q) (apply_link by) (link_fits-apply p q by fit) n.links f.links;
+    pre_once = lits_once-apply by n.goal.pure_pre;
+    post_once = lits_once-apply by n.goal.pure_post;
   }

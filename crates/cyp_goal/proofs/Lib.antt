@@ -13,7 +13,9 @@ pub mod SolveLeaves
 pub mod LitEquality
 pub mod Added
 pub mod Live
+pub mod SameVars
 pub mod TidyLeaves
+pub mod Shrink
 pub mod PruneLeaves
 pub mod Ranks
 pub mod RenameFits

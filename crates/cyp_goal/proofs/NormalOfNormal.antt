@@ -17,6 +17,7 @@ use Rattle.cyp_goal.proofs.RenameSelf.{node_self, self}
 use Rattle.cyp_goal.proofs.RenameTidy.{tidy_node-rename}
 use Rattle.cyp_goal.proofs.RenameVars.{node_vars-rename, var_in-rename}
 use Rattle.cyp_goal.proofs.Renumber.{no_set, of_post, of_pure_post, renumber-renames}
+use Rattle.cyp_goal.proofs.Shrink.{node_vars-shrink, prune-shrink, shrink_again, shrink_node, tidy-shrink}
 use Rattle.cyp_goal.proofs.SolveLeaves.{apart, post_at, pre_at, solve_leaves}
 use Rattle.cyp_goal.proofs.SolvedLits.{solved_any-rename, solved_eq-less, solved_eq-rename}
 use Rattle.cyp_goal.proofs.TidyLeaves.{IsTidy, tidy_leaves, tidy_same}
@@ -57,7 +58,7 @@ avoids_exist g f h =
 -- the steps before the last leave a reduced node
 reduced : (n s : Node) → IsRaw n → solve n ≡ Some s → IsReduced (prune (tidy_node s))
 reduced n s raw e =
-    let fits : FitNode no_set is_set_var n = node_parts no_set is_set_var n raw.written in
+    let fits : FitNode no_set is_set_var n = node_parts no_set is_set_var n raw.sorted raw.pre_once raw.post_once in
     let t : Node = tidy_node s in
     let tidy : IsTidy no_set is_set_var t = tidy_leaves no_set is_set_var s (solve_leaves no_set is_set_var n s fits (avoids_exist n.goal fits.pure_pre raw.exist_apart) e) in
     record {
@@ -80,7 +81,11 @@ post_solved : (k : ℕ) (n : Node) → first_solved (solved_any (λ v. var_in v 
 post_solved zero n e = refl
 post_solved (suc k) n e = ap (post_at k n) e
 
-module _ (n : Node) (is : IsReduced n) where
+abbrev itself : Node → Renaming
+itself x = record { node = x; old = x.goal.program }
+
+-- a reduced node whose set terms can't shrink
+module _ (n : Node) (is : IsReduced n) (small : (r : Var → Var) → IsRenaming r → shrink_node (rename_node r n) ≡ rename_node r n) where
   abbrev r : Var → Var
   r = name_in (node_vars n)
 
@@ -131,10 +136,8 @@ module _ (n : Node) (is : IsReduced n) where
   renumber_numbered =
       renumber-renames m self (record { apart = λ v w. refl; sort = λ v. refl }) keeps_name
       (fit_renamed r renames no_set is_set_var (λ v. ap (λ s. not (sort_eq s Set)) (renames.sort v)) (λ v. ap (λ s. sort_eq s Set) (renames.sort v)) n is.tidy.solved.fits) renamed_exist
-      ∙ node_self m
-
-  abbrev itself : Node → Renaming
-  itself x = record { node = x; old = x.goal.program }
+      ∙ node_self (shrink_node m)
+      ∙ small r renames
 
   -- a numbered node within limits is its own normal form
   normal_numbered : is_within_limits m ≡ true → normal m ≡ Some (itself m)
@@ -144,14 +147,27 @@ module _ (n : Node) (is : IsReduced n) where
       ∙ ap (λ (x : Node). cond (is_within_limits x) (Some (record { node = x; old = m.goal.program })) None) renumber_numbered
       ∙ cond-true (is_within_limits m) (Some (itself m)) None within
 
-  numbered_is : renumber n ≡ m
-  numbered_is = renumber-renames n r renames (name_in-new (node_vars n)) is.tidy.solved.fits is.exist_used
+-- ---- the whole
 
-  pub normal_renumbered : (x : Renaming) → keep_limits n ≡ Some x → normal x.node ≡ Some (itself x.node)
-  normal_renumbered x e =
-      let found = cond_some (is_within_limits (renumber n)) (record { node = renumber n; old = n.goal.program }) x e in
-      let same : m ≡ x.node = sym numbered_is ∙ ap (λ (y : Renaming). y.node) found.1 in
-      subst (λ (y : Node). normal y ≡ Some (itself y)) same (normal_numbered (ap is_within_limits (sym numbered_is) ∙ found.0))
+shrunk : (n : Node) → IsReduced n → IsReduced (shrink_node n)
+shrunk n is = record {
+  tidy = tidy-shrink no_set is_set_var n is.tidy;
+  pruned = prune-shrink n ∙ ap shrink_node is.pruned;
+  exist_used = λ v k. subst (Among v) (sym (node_vars-shrink n)) (is.exist_used v k);
+}
+
+-- numbering anew also shrinks set terms
+numbered_is : (n : Node) → IsReduced n → renumber n ≡ rename_node (name_in (node_vars (shrink_node n))) (shrink_node n)
+numbered_is n is =
+    renumber-renames n (name_in (node_vars n)) (IsRenaming-name_in (node_vars n)) (name_in-new (node_vars n)) is.tidy.solved.fits is.exist_used
+    ∙ ap (λ vs. rename_node (name_in vs) (shrink_node n)) (sym (node_vars-shrink n))
+
+normal_renumbered : (n : Node) → IsReduced n → (x : Renaming) → keep_limits n ≡ Some x → normal x.node ≡ Some (itself x.node)
+normal_renumbered n is x e =
+    let found = cond_some (is_within_limits (renumber n)) (record { node = renumber n; old = n.goal.program }) x e in
+    let numbered = numbered_is n is in
+    subst (λ (y : Node). normal y ≡ Some (itself y)) (sym numbered ∙ ap (λ (y : Renaming). y.node) found.1)
+    (normal_numbered (shrink_node n) (shrunk n is) (λ r renames. shrink_again r renames n) (ap is_within_limits (sym numbered) ∙ found.0))
 
 pub normal_of_normal : NormalOfNormal
 normal_of_normal n x raw e =

@@ -11,7 +11,7 @@ use Rattle.cyp_goal.proofs.SolvedLits.{solved_any-less, solved_eq-less}
 use Rattle.cyp_goal.proofs.TidyLeaves.{AddressLit, IsTidy, address_lit}
 use Rattle.cyp_goal.specs.Pruning.{is_kept, live_vars, only_vars, prune, touches}
 use Rattle.cyp_goal.specs.Solving.{solved_any, solved_eq}
-use Rattle.cyp_goal.specs.Raw.{images_fit, link_fits, lit_fits, set_fits, term_fits}
+use Rattle.cyp_goal.specs.Raw.{lit_once, images_fit, link_fits, lit_fits, set_fits, term_fits}
 use Rattle.cyp_goal.specs.Tidying.{address, is_plainly_true}
 use Rattle.cyp_heap.specs.Chunks.{chunk_vars, chunks_vars}
 use Rattle.cyp_heap.specs.Goals.{tuple_vars}
@@ -322,6 +322,8 @@ module _ (p q : Var → Bool) where
             pure_post = fits.pure_post;
             post = fits.post;
             links = links_kept (alive n) n.links fits.links;
+            pre_once = filter_all lit_once (is_kept (live n)) n.goal.pure_pre fits.pre_once;
+            post_once = fits.post_once;
           };
           none_pre = each_from (λ l. is_none (solved_eq (apart (program n)) l)) (pre n) (λ l k.
               solved_eq-less (apart n.goal.program) (apart (program n)) l

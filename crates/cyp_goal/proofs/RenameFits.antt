@@ -1,11 +1,11 @@
--- A renaming that keeps the tests of variables keeps what fits.
+-- A renaming that keeps the tests of variables keeps what fits, and what is without repeats.
 use Rattle.std.proofs.Common.{◌≡◌, ◌∙◌, [], Option, Some, None, Bool, true, ◌&&◌, refl, ap, ap₂}
 use Rattle.std.specs.List.{list_all}
 use Rattle.cyp_goal.proofs.Fits.{FitNode}
 use Rattle.cyp_goal.proofs.Maps.{all_new-map, list_all-map}
 use Rattle.cyp_goal.proofs.Rename.{IsRenaming, rename_arg, rename_base, rename_chunk, rename_images, rename_link, rename_lit, rename_node, rename_set, rename_term, term_eq-rename}
 use Rattle.cyp_goal.proofs.RenameVars.{rename_int_bind, rename_set_bind}
-use Rattle.cyp_goal.specs.Raw.{arg_fits, chunk_fits, images_fit, link_fits, lit_fits, set_fits, term_fits}
+use Rattle.cyp_goal.specs.Raw.{lit_once, set_once, arg_fits, chunk_fits, images_fit, link_fits, lit_fits, set_fits, term_fits}
 use Rattle.cyp_heap.specs.Chunks.{card_vars}
 use Rattle.cyp_heap.specs.declared.chunk.Arg.{Arg}
 use Rattle.cyp_heap.specs.declared.chunk.Arg.TheVariants.{Int as IntArg, Set as SetArg}
@@ -37,11 +37,20 @@ module _ (r : Var → Var) (is : IsRenaming r) (p q : Var → Bool) (keeps : (v 
 
   set_fits-rename : (u : SetTerm) → set_fits p q (rename_set r u) ≡ set_fits p q u
   set_fits-rename u =
-      let vars = list_all-map r q q keeps_sets u.vars in
-      let elems = list_all-map (rename_term r) (term_fits p) (term_fits p) term_fits-rename u.elems in
-      let vars_once = all_new-map r var_eq var_eq is.apart [] u.vars in
-      let elems_once = all_new-map (rename_term r) term_eq term_eq (term_eq-rename r is) [] u.elems in
-      λ i. vars i && elems i && vars_once i && elems_once i
+      ap₂ (λ x y. x && y) (list_all-map r q q keeps_sets u.vars) (list_all-map (rename_term r) (term_fits p) (term_fits p) term_fits-rename u.elems)
+
+  set_once-rename : (u : SetTerm) → set_once (rename_set r u) ≡ set_once u
+  set_once-rename u =
+      ap₂ (λ x y. x && y) (all_new-map r var_eq var_eq is.apart [] u.vars) (all_new-map (rename_term r) term_eq term_eq (term_eq-rename r is) [] u.elems)
+
+  lit_once-rename : (l : Lit) → lit_once (rename_lit r l) ≡ lit_once l
+  lit_once-rename (Same a b) = ap₂ (λ x y. x && y) (set_once-rename a) (set_once-rename b)
+  lit_once-rename (NotSame a b) = ap₂ (λ x y. x && y) (set_once-rename a) (set_once-rename b)
+  lit_once-rename (Member t b) = set_once-rename b
+  lit_once-rename (NotMember t b) = set_once-rename b
+  lit_once-rename (Sub a b) = ap₂ (λ x y. x && y) (set_once-rename a) (set_once-rename b)
+  lit_once-rename (NotSub a b) = ap₂ (λ x y. x && y) (set_once-rename a) (set_once-rename b)
+  lit_once-rename _ = refl
 
   both : (a b c d : Bool) → a ≡ b → c ≡ d → (a && c) ≡ (b && d)
   both a b c d e f = ap₂ (λ x y. x && y) e f
@@ -82,4 +91,6 @@ module _ (r : Var → Var) (is : IsRenaming r) (p q : Var → Bool) (keeps : (v 
     pure_post = list_all-map (rename_lit r) (lit_fits p q) (lit_fits p q) lit_fits-rename n.goal.pure_post ∙ f.pure_post;
     post = list_all-map (rename_chunk r) (chunk_fits p q) (chunk_fits p q) chunk_fits-rename n.goal.post.chunks ∙ f.post;
     links = list_all-map (rename_link r) (link_fits p q) (link_fits p q) link_fits-rename n.links ∙ f.links;
+    pre_once = list_all-map (rename_lit r) lit_once lit_once lit_once-rename n.goal.pure_pre ∙ f.pre_once;
+    post_once = list_all-map (rename_lit r) lit_once lit_once lit_once-rename n.goal.pure_post ∙ f.post_once;
   }

@@ -1,15 +1,15 @@
--- Numbering anew is a renaming.
+-- Numbering anew is a renaming, and leaves set terms without repeats.
 use Rattle.std.proofs.Common.{◌≡◌, ◌∙◌, [], ◌∷◌, ◌++◌, List, Option, Some, None, Bool, true, ◌&&◌, not, map, filter, flat_map, refl, ap, ap₂, inl, inr}
 use Rattle.std.specs.List.{list_all}
 use Rattle.std.proofs.lemmas.Bool.{and_parts, cond_both}
-use Rattle.cyp_goal.proofs.AllNew.{without_repeats-all_new}
 use Rattle.cyp_goal.proofs.Fits.{FitNode, FitSet, set_parts}
 use Rattle.cyp_goal.proofs.Maps.{without_repeats-map}
 use Rattle.cyp_goal.proofs.Ranks.{among_rest}
 use Rattle.cyp_goal.proofs.Rename.{IsRenaming, rename_arg, rename_base, rename_chunk, rename_images, rename_link, rename_lit, rename_node, rename_set, rename_term, term_eq-rename}
+use Rattle.cyp_goal.proofs.Shrink.{shrink_arg, shrink_bind, shrink_chunk, shrink_images, shrink_link, shrink_node, shrink_once, shrink_set}
 use Rattle.cyp_goal.proofs.RenameVars.{link_vars, rename_int_bind, rename_set_bind}
 use Rattle.cyp_goal.specs.Numbering.{new_name, numbering, renumber}
-use Rattle.cyp_goal.specs.Raw.{arg_fits, chunk_fits, images_fit, link_fits, lit_fits, set_fits, term_fits}
+use Rattle.cyp_goal.specs.Raw.{lit_once, set_once, arg_fits, chunk_fits, images_fit, link_fits, lit_fits, set_fits, term_fits}
 use Rattle.cyp_heap.specs.Chunks.{apply_arg, apply_card, apply_chunk, arg_vars, card_vars, chunk_vars, chunks_vars}
 use Rattle.cyp_heap.specs.Goals.{apply_bind, apply_link, apply_set_bind, goal_vars, image_vars, node_vars}
 use Rattle.cyp_heap.specs.declared.chunk.Arg.{Arg}
@@ -46,6 +46,13 @@ set_image_at f [] v k = absurd k
 set_image_at f (u ∷ us) v k =
     cond_both (var_eq u v) (Some (f u)) (set_image (map (λ w. record { var = w; to = f w }) us) v) (λ o. o ≡ Some (f v))
     (λ e. ap (λ w. Some (f w)) ((Decides-var_eq u v).0 e)) (λ e. set_image_at f us v (among_rest u us v e k))
+
+map_where_twice : {A B : Type 0} (f : A → B) (g : A → B) (h : A → A) (xs : List A) → ((x : A) → Among x xs → f x ≡ g (h x)) → map f xs ≡ map g (map h xs)
+map_where_twice f g h [] e = refl
+map_where_twice f g h (x ∷ xs) e =
+    let first = e x (inl refl) in
+    let rest = map_where_twice f g h xs (λ y k. e y (inr k)) in
+    λ i. first i ∷ rest i
 
 map_where : {A B : Type 0} (f g : A → B) (xs : List A) → ((x : A) → Among x xs → f x ≡ g x) → map f xs ≡ map g xs
 map_where f g [] h = refl
@@ -96,19 +103,21 @@ module _ (vs : List Var) (r : Var → Var) (is : IsRenaming r) (new : (v : Var) 
   images_elems [] h = refl
   images_elems (u ∷ us) h = ap₂ (λ (i : SetTerm) ws. i.elems ++ ws) (h u (inl refl)) (images_elems us (λ v k. h v (inr k)))
 
-  set_named_by : (u : SetTerm) → FitSet no_set is_set_var u → In (set_vars u) → apply_set by u ≡ rename_set r u
+  set_named_by : (u : SetTerm) → FitSet no_set is_set_var u → In (set_vars u) → apply_set by u ≡ rename_set r (shrink_set u)
   set_named_by u f k =
       let one : (v : Var) → Among v u.vars → image v ≡ set_var (r v) =
       λ v i. ap (image_or_self v) (set_named v (each_at is_set_var v u.vars f.vars i) (k v (Among-left v u.vars (flat_map term_vars u.elems) i))) in
-      let vars = ap (without_repeats var_eq) (images_vars u.vars one) ∙ without_repeats-map r var_eq var_eq is.apart u.vars
-      ∙ ap (map r) (without_repeats-all_new var_eq u.vars f.vars_once) in
+      let vars = ap (without_repeats var_eq) (images_vars u.vars one) ∙ without_repeats-map r var_eq var_eq is.apart u.vars in
       let elems = ap₂ (λ xs ys. without_repeats term_eq (xs ++ ys)) (images_elems u.vars one)
       (terms_named u.elems f.elems (λ v i. k v (Among-right v u.vars (flat_map term_vars u.elems) i)))
-      ∙ without_repeats-map (rename_term r) term_eq term_eq (term_eq-rename r is) u.elems ∙ ap (map (rename_term r)) (without_repeats-all_new term_eq u.elems f.elems_once) in
+      ∙ without_repeats-map (rename_term r) term_eq term_eq (term_eq-rename r is) u.elems in
       λ i. record { vars = vars i; elems = elems i }
 
-  set_term_named : (u : SetTerm) → set_fits no_set is_set_var u ≡ true → In (set_vars u) → apply_set by u ≡ rename_set r u
+  set_term_named : (u : SetTerm) → set_fits no_set is_set_var u ≡ true → In (set_vars u) → apply_set by u ≡ rename_set r (shrink_set u)
   set_term_named u h k = set_named_by u (set_parts no_set is_set_var u h) k
+
+  once_named : (u : SetTerm) → set_fits no_set is_set_var u ≡ true → set_once u ≡ true → In (set_vars u) → apply_set by u ≡ rename_set r u
+  once_named u h o k = set_term_named u h k ∙ ap (rename_set r) (shrink_once u o)
 
   two_named : {A B C : Type 0} (f : A → B → C) (a a' : A) (b b' : B) (x y : Bool) (us ws : List Var) → (x ≡ true → In us → a ≡ a') → (y ≡ true → In ws → b ≡ b') → (x && y) ≡ true → In (us ++ ws) → f a b ≡ f a' b'
   two_named f a a' b b' x y us ws g h e k =
@@ -118,41 +127,45 @@ module _ (vs : List Var) (r : Var → Var) (is : IsRenaming r) (new : (v : Var) 
   two_terms : (f : Term → Term → Lit) (a b : Term) → (term_fits no_set a && term_fits no_set b) ≡ true → In (term_vars a ++ term_vars b) → f (apply_term by a) (apply_term by b) ≡ f (rename_term r a) (rename_term r b)
   two_terms f a b h k = two_named f _ _ _ _ (term_fits no_set a) (term_fits no_set b) (term_vars a) (term_vars b) (term_named a) (term_named b) h k
 
-  two_sets : (f : SetTerm → SetTerm → Lit) (a b : SetTerm) → (set_fits no_set is_set_var a && set_fits no_set is_set_var b) ≡ true → In (set_vars a ++ set_vars b)
-      → f (apply_set by a) (apply_set by b) ≡ f (rename_set r a) (rename_set r b)
-  two_sets f a b h k = two_named f _ _ _ _ (set_fits no_set is_set_var a) (set_fits no_set is_set_var b) (set_vars a) (set_vars b) (set_term_named a) (set_term_named b) h k
+  two_sets : (f : SetTerm → SetTerm → Lit) (a b : SetTerm) → (set_fits no_set is_set_var a && set_fits no_set is_set_var b) ≡ true → (set_once a && set_once b) ≡ true
+      → In (set_vars a ++ set_vars b) → f (apply_set by a) (apply_set by b) ≡ f (rename_set r a) (rename_set r b)
+  two_sets f a b h o k =
+      let once = and_parts (set_once a) (set_once b) o in
+      two_named f _ _ _ _ (set_fits no_set is_set_var a) (set_fits no_set is_set_var b) (set_vars a) (set_vars b) (λ e. once_named a e once.0) (λ e. once_named b e once.1) h k
 
-  term_and_set : (f : Term → SetTerm → Lit) (a : Term) (b : SetTerm) → (term_fits no_set a && set_fits no_set is_set_var b) ≡ true → In (term_vars a ++ set_vars b)
-      → f (apply_term by a) (apply_set by b) ≡ f (rename_term r a) (rename_set r b)
-  term_and_set f a b h k = two_named f _ _ _ _ (term_fits no_set a) (set_fits no_set is_set_var b) (term_vars a) (set_vars b) (term_named a) (set_term_named b) h k
+  term_and_set : (f : Term → SetTerm → Lit) (a : Term) (b : SetTerm) → (term_fits no_set a && set_fits no_set is_set_var b) ≡ true → set_once b ≡ true
+      → In (term_vars a ++ set_vars b) → f (apply_term by a) (apply_set by b) ≡ f (rename_term r a) (rename_set r b)
+  term_and_set f a b h o k =
+      two_named f _ _ _ _ (term_fits no_set a) (set_fits no_set is_set_var b) (term_vars a) (set_vars b) (term_named a) (λ e. once_named b e o) h k
 
-  lit_named : (l : Lit) → lit_fits no_set is_set_var l ≡ true → In (lit_vars l) → apply_lit by l ≡ rename_lit r l
-  lit_named (Eq a b) = two_terms Eq a b
-  lit_named (Ne a b) = two_terms Ne a b
-  lit_named (Le a b) = two_terms Le a b
-  lit_named (Lt a b) = two_terms Lt a b
-  lit_named (Same a b) = two_sets Same a b
-  lit_named (NotSame a b) = two_sets NotSame a b
-  lit_named (Member a b) = term_and_set Member a b
-  lit_named (NotMember a b) = term_and_set NotMember a b
-  lit_named (Sub a b) = two_sets Sub a b
-  lit_named (NotSub a b) = two_sets NotSub a b
+  lit_named : (l : Lit) → lit_fits no_set is_set_var l ≡ true → lit_once l ≡ true → In (lit_vars l) → apply_lit by l ≡ rename_lit r l
+  lit_named (Eq a b) h o k = two_terms Eq a b h k
+  lit_named (Ne a b) h o k = two_terms Ne a b h k
+  lit_named (Le a b) h o k = two_terms Le a b h k
+  lit_named (Lt a b) h o k = two_terms Lt a b h k
+  lit_named (Same a b) h o k = two_sets Same a b h o k
+  lit_named (NotSame a b) h o k = two_sets NotSame a b h o k
+  lit_named (Member a b) h o k = term_and_set Member a b h o k
+  lit_named (NotMember a b) h o k = term_and_set NotMember a b h o k
+  lit_named (Sub a b) h o k = two_sets Sub a b h o k
+  lit_named (NotSub a b) h o k = two_sets NotSub a b h o k
 
-  lits_named : (ls : List Lit) → list_all (lit_fits no_set is_set_var) ls ≡ true → In (lits_vars ls) → map (apply_lit by) ls ≡ map (rename_lit r) ls
-  lits_named ls h k = map_where (apply_lit by) (rename_lit r) ls (λ l i. lit_named l (each_at (lit_fits no_set is_set_var) l ls h i) (λ v m. k v (flat_in lit_vars v l ls i m)))
+  lits_named : (ls : List Lit) → list_all (lit_fits no_set is_set_var) ls ≡ true → list_all lit_once ls ≡ true → In (lits_vars ls) → map (apply_lit by) ls ≡ map (rename_lit r) ls
+  lits_named ls h o k =
+      map_where (apply_lit by) (rename_lit r) ls (λ l i. lit_named l (each_at (lit_fits no_set is_set_var) l ls h i) (each_at lit_once l ls o i) (λ v m. k v (flat_in lit_vars v l ls i m)))
 
-  arg_named : (a : Arg) → arg_fits no_set is_set_var a ≡ true → In (arg_vars a) → apply_arg by a ≡ rename_arg r a
+  arg_named : (a : Arg) → arg_fits no_set is_set_var a ≡ true → In (arg_vars a) → apply_arg by a ≡ rename_arg r (shrink_arg a)
   arg_named (IntArg t) h k = ap IntArg (term_named t h k)
   arg_named (SetArg u) h k = ap SetArg (set_term_named u h k)
 
-  args_named : (xs : List Arg) → list_all (arg_fits no_set is_set_var) xs ≡ true → In (flat_map arg_vars xs) → map (apply_arg by) xs ≡ map (rename_arg r) xs
-  args_named xs h k = map_where (apply_arg by) (rename_arg r) xs (λ a i. arg_named a (each_at (arg_fits no_set is_set_var) a xs h i) (λ v m. k v (flat_in arg_vars v a xs i m)))
+  args_named : (xs : List Arg) → list_all (arg_fits no_set is_set_var) xs ≡ true → In (flat_map arg_vars xs) → map (apply_arg by) xs ≡ map (rename_arg r) (map shrink_arg xs)
+  args_named xs h k = map_where_twice (apply_arg by) (rename_arg r) shrink_arg xs (λ a i. arg_named a (each_at (arg_fits no_set is_set_var) a xs h i) (λ v m. k v (flat_in arg_vars v a xs i m)))
 
   card_named : (c : Option Var) → list_all no_set (card_vars c) ≡ true → In (card_vars c) → apply_card by c ≡ rename_base r c
   card_named None h k = refl
   card_named (Some v) h k = ap (λ o. Some (var_at v o)) (int_named v (and_parts (no_set v) true h).0 (k v (inl refl)))
 
-  chunk_named : (c : Chunk) → chunk_fits no_set is_set_var c ≡ true → In (chunk_vars c) → apply_chunk by c ≡ rename_chunk r c
+  chunk_named : (c : Chunk) → chunk_fits no_set is_set_var c ≡ true → In (chunk_vars c) → apply_chunk by c ≡ rename_chunk r (shrink_chunk c)
   chunk_named (Inst i) h k =
       two_named (λ xs d. Inst (record { pred = i.pred; args = xs; card = d; tag = i.tag })) _ _ _ _ (list_all (arg_fits no_set is_set_var) i.args) (list_all no_set (card_vars i.card))
       (flat_map arg_vars i.args) (card_vars i.card) (args_named i.args) (card_named i.card) h k
@@ -161,26 +174,26 @@ module _ (vs : List Var) (r : Var → Var) (is : IsRenaming r) (new : (v : Var) 
       two_named (λ s t. Cell (record { at = s; content = t })) _ _ _ _ (term_fits no_set c.at) (term_fits no_set c.content) (term_vars c.at) (term_vars c.content)
       (term_named c.at) (term_named c.content) h k
 
-  chunks_named : (cs : List Chunk) → list_all (chunk_fits no_set is_set_var) cs ≡ true → In (chunks_vars cs) → map (apply_chunk by) cs ≡ map (rename_chunk r) cs
-  chunks_named cs h k = map_where (apply_chunk by) (rename_chunk r) cs (λ c i. chunk_named c (each_at (chunk_fits no_set is_set_var) c cs h i) (λ v m. k v (flat_in chunk_vars v c cs i m)))
+  chunks_named : (cs : List Chunk) → list_all (chunk_fits no_set is_set_var) cs ≡ true → In (chunks_vars cs) → map (apply_chunk by) cs ≡ map (rename_chunk r) (map shrink_chunk cs)
+  chunks_named cs h k = map_where_twice (apply_chunk by) (rename_chunk r) shrink_chunk cs (λ c i. chunk_named c (each_at (chunk_fits no_set is_set_var) c cs h i) (λ v m. k v (flat_in chunk_vars v c cs i m)))
 
   ints_named : (bs : List IntBind) → list_all (λ (b : IntBind). term_fits no_set b.to) bs ≡ true → In (flat_map (λ (b : IntBind). term_vars b.to) bs) → map (apply_bind by) bs ≡ map (rename_int_bind r) bs
   ints_named bs h k =
       map_where (apply_bind by) (rename_int_bind r) bs (λ b i. ap (λ t. record { var = b.var; to = t })
       (term_named b.to (each_at (λ (c : IntBind). term_fits no_set c.to) b bs h i) (λ v m. k v (flat_in (λ (c : IntBind). term_vars c.to) v b bs i m))))
 
-  sets_named : (bs : List SetBind) → list_all (λ (b : SetBind). set_fits no_set is_set_var b.to) bs ≡ true → In (flat_map (λ (b : SetBind). set_vars b.to) bs) → map (apply_set_bind by) bs ≡ map (rename_set_bind r) bs
+  sets_named : (bs : List SetBind) → list_all (λ (b : SetBind). set_fits no_set is_set_var b.to) bs ≡ true → In (flat_map (λ (b : SetBind). set_vars b.to) bs) → map (apply_set_bind by) bs ≡ map (rename_set_bind r) (map shrink_bind bs)
   sets_named bs h k =
-      map_where (apply_set_bind by) (rename_set_bind r) bs (λ b i. ap (λ u. record { var = b.var; to = u })
+      map_where_twice (apply_set_bind by) (rename_set_bind r) shrink_bind bs (λ b i. ap (λ u. record { var = b.var; to = u })
       (set_term_named b.to (each_at (λ (c : SetBind). set_fits no_set is_set_var c.to) b bs h i) (λ v m. k v (flat_in (λ (c : SetBind). set_vars c.to) v b bs i m))))
 
   images_named : (m : Subst) → images_fit no_set is_set_var m ≡ true → In (image_vars m)
-      → (◌≡◌ {A = Subst} (record { ints = map (apply_bind by) m.ints; sets = map (apply_set_bind by) m.sets }) (rename_images r m))
+      → (◌≡◌ {A = Subst} (record { ints = map (apply_bind by) m.ints; sets = map (apply_set_bind by) m.sets }) (rename_images r (shrink_images m)))
   images_named m h k =
       two_named (λ xs ys. record { ints = xs; sets = ys }) _ _ _ _ (list_all (λ (b : IntBind). term_fits no_set b.to) m.ints) (list_all (λ (b : SetBind). set_fits no_set is_set_var b.to) m.sets)
       (flat_map (λ (b : IntBind). term_vars b.to) m.ints) (flat_map (λ (b : SetBind). set_vars b.to) m.sets) (ints_named m.ints) (sets_named m.sets) h k
 
-  link_named : (k : Link) → link_fits no_set is_set_var k ≡ true → In (link_vars r k) → apply_link by k ≡ rename_link r k
+  link_named : (k : Link) → link_fits no_set is_set_var k ≡ true → In (link_vars r k) → apply_link by k ≡ rename_link r (shrink_link k)
   link_named k h i =
       two_named (λ t m. record { goal = k.goal; own = k.own; map = m; tuple = t }) _ _ _ _ (list_all (term_fits no_set) k.tuple) (images_fit no_set is_set_var k.map)
       (flat_map term_vars k.tuple) (image_vars k.map) (terms_named k.tuple) (images_named k.map) h i
@@ -234,17 +247,17 @@ module _ (n : Node) where
 
   -- numbering is a renaming, where each variable has the sort of its place and each existential stands somewhere
   pub renumber-renames : (r : Var → Var) → IsRenaming r → ((v : Var) → Among v (node_vars n) → new_name (node_vars n) v ≡ r v) → FitNode no_set is_set_var n
-      → ((v : Var) → Among v n.goal.exist → Among v (node_vars n)) → renumber n ≡ rename_node r n
+      → ((v : Var) → Among v n.goal.exist → Among v (node_vars n)) → renumber n ≡ rename_node r (shrink_node n)
   renumber-renames r is new f used =
       let vs : List Var = node_vars n in
       let g : Goal = n.goal in
       let program = map_where (new_name vs) r g.program (λ v k. new v (of_program v k)) in
       let exist = map_where (new_name vs) r g.exist (λ v k. new v (used v k)) in
-      let pure_pre = lits_named vs r is new g.pure_pre f.pure_pre of_pure_pre in
+      let pure_pre = lits_named vs r is new g.pure_pre f.pure_pre f.pre_once of_pure_pre in
       let pre = chunks_named vs r is new g.pre.chunks f.pre of_pre in
-      let pure_post = lits_named vs r is new g.pure_post f.pure_post of_pure_post in
+      let pure_post = lits_named vs r is new g.pure_post f.pure_post f.post_once of_pure_post in
       let post = chunks_named vs r is new g.post.chunks f.post of_post in
-      let links = map_where (apply_link (numbering vs)) (rename_link r) n.links (λ k i. link_named vs r is new k (each_at (link_fits no_set is_set_var) k n.links f.links i)
+      let links = map_where_twice (apply_link (numbering vs)) (rename_link r) shrink_link n.links (λ k i. link_named vs r is new k (each_at (link_fits no_set is_set_var) k n.links f.links i)
       (λ v m. of_links v (flat_in (λ (l : Link). flat_map term_vars l.tuple ++ image_vars l.map) v k n.links i m))) in
       λ i. record {
         preds = n.preds;

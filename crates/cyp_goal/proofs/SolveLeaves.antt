@@ -10,7 +10,7 @@ use Rattle.cyp_goal.proofs.Fits.{FitNode, ImagesFit, lit_fits-at, lits_fit-apply
 use Rattle.cyp_goal.proofs.SolvedLits.{SolvesFor, solved_any-by, solved_eq-by, solved_eq-less}
 use Rattle.cyp_goal.specs.Normal.{solve}
 use Rattle.cyp_goal.specs.Solving.{first_solved, is_logical, solve_post, solve_pre, solved_any, solved_eq, substitute, wide_subst, with_post, with_pre}
-use Rattle.cyp_goal.specs.Raw.{lit_fits, term_fits}
+use Rattle.cyp_goal.specs.Raw.{lit_once, lit_fits, term_fits}
 use Rattle.cyp_heap.specs.Goals.{apply_node, wide_node}
 use Rattle.cyp_heap.specs.declared.goal.Node.{Node}
 use Rattle.cyp_term.proofs.Lists.{each_at, each_from}
@@ -72,6 +72,8 @@ module _ (p q : Var → Bool) where
         pure_post = fits.pure_post;
         post = fits.post;
         links = fits.links;
+        pre_once = fewer_lits lit_once n.goal.pure_pre f s d fits.pre_once;
+        post_once = fits.post_once;
       } in
       let later = ih (apply_node s.0 (with_pre n s.1))
       (length-map s.1 (apply_lit s.0) ∙ shorter (length s.1) k (d.fewer ∙ many))
@@ -163,6 +165,8 @@ module _ (p q : Var → Bool) where
         pure_post = fewer_lits (lit_fits p q) n.goal.pure_post f s d done.fits.pure_post;
         post = done.fits.post;
         links = done.fits.links;
+        pre_once = done.fits.pre_once;
+        post_once = fewer_lits lit_once n.goal.pure_post f s d done.fits.post_once;
       } in
       let later = ih (apply_node s.0 (with_post n s.1))
       (length-map s.1 (apply_lit s.0) ∙ shorter (length s.1) k (d.fewer ∙ many))

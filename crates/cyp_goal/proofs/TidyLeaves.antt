@@ -10,7 +10,7 @@ use Rattle.cyp_goal.proofs.LitEquality.{Decides-lit_eq, lit_self}
 use Rattle.cyp_goal.proofs.SolveLeaves.{IsSolved, apart}
 use Rattle.cyp_goal.specs.Normal.{tidy_node}
 use Rattle.cyp_goal.specs.Solving.{solved_any, solved_eq}
-use Rattle.cyp_goal.specs.Raw.{all_new, chunk_fits, lit_fits, term_fits}
+use Rattle.cyp_goal.specs.Raw.{lit_once, all_new, chunk_fits, lit_fits, term_fits}
 use Rattle.cyp_goal.specs.Tidying.{above_zero, address, address_lits, is_plainly_true, least_of, offsets_at, tidy_lits}
 use Rattle.cyp_heap.specs.declared.chunk.Chunk.{Chunk}
 use Rattle.cyp_heap.specs.declared.chunk.Chunk.TheVariants.{Block, Cell, Inst}
@@ -60,6 +60,11 @@ address_not_plain ts l (inr h) =
 address_none : (test : Var → Bool) (ts : List Term) (l : Lit) → AddressLit ts l → is_none (solved_eq test l) ≡ true
 address_none test ts l (inl h) = ap (λ m. is_none (solved_eq test m)) h.2
 address_none test ts l (inr h) = ap (λ m. is_none (solved_eq test m)) h.1
+
+-- it has no set term
+address_once : (ts : List Term) (l : Lit) → AddressLit ts l → lit_once l ≡ true
+address_once ts l (inl h) = ap lit_once h.2
+address_once ts l (inr h) = ap lit_once h.1
 
 module _ (p q : Var → Bool) where
   pub address_lit_fits : (ts : List Term) (l : Lit) → list_all (term_fits p) ts ≡ true → AddressLit ts l → lit_fits p q l ≡ true
@@ -114,6 +119,8 @@ module _ (p q : Var → Bool) where
             pure_post = post_each (lit_fits p q) g.pure_post (λ l k _. each_at (lit_fits p q) l g.pure_post s.fits.pure_post k);
             post = s.fits.post;
             links = s.fits.links;
+            pre_once = pre_each lit_once g.pure_pre ts (λ l k _. each_at lit_once l g.pure_pre s.fits.pre_once k) (address_once ts);
+            post_once = post_each lit_once g.pure_post (λ l k _. each_at lit_once l g.pure_post s.fits.post_once k);
           };
           none_pre = pre_each (λ l. is_none (solved_eq (apart g.program) l)) g.pure_pre ts
               (λ l k _. each_at (λ x. is_none (solved_eq (apart g.program) x)) l g.pure_pre s.none_pre k) (address_none (apart g.program) ts);

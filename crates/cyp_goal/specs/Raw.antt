@@ -19,20 +19,15 @@ use Rattle.cyp_term.specs.declared.subst.Subst.{Subst}
 use Rattle.cyp_term.specs.declared.term.Term.{Term}
 use Rattle.cyp_term.specs.declared.term.Var.{Var}
 
--- no element is equal to one of the first list, or to one before it
-abbrev pub all_new : {A : Type 0} → (A → A → Bool) → List A → List A → Bool
-all_new eq seen [] = true
-all_new eq seen (x ∷ xs) = not (list_any (eq x) seen) && all_new eq (seen ++ x ∷ []) xs
-
 -- ---- tests of the variables in places of integers and in places of sets
 
 -- the base, if there is one, passes the test
 abbrev pub term_fits : (Var → Bool) → Term → Bool
 term_fits p t = list_all p (term_vars t)
 
--- the variables pass the second test, the bases of the elements the first, and no part stands twice
+-- the variables pass the second test, the bases of the elements the first
 abbrev pub set_fits : (Var → Bool) → (Var → Bool) → SetTerm → Bool
-set_fits p q u = list_all q u.vars && list_all (term_fits p) u.elems && all_new var_eq [] u.vars && all_new term_eq [] u.elems
+set_fits p q u = list_all q u.vars && list_all (term_fits p) u.elems
 
 -- both sides fit
 abbrev pub lit_fits : (Var → Bool) → (Var → Bool) → Lit → Bool
@@ -76,14 +71,38 @@ link_fits p q k = list_all (term_fits p) k.tuple && images_fit p q k.map
 abbrev pub node_fits : (Var → Bool) → (Var → Bool) → Node → Bool
 node_fits p q n = goal_fits p q n.goal && list_all (link_fits p q) n.links
 
+-- ---- set terms without repeats
+
+-- no element is equal to one of the first list, or to one before it
+abbrev pub all_new : {A : Type 0} → (A → A → Bool) → List A → List A → Bool
+all_new eq seen [] = true
+all_new eq seen (x ∷ xs) = not (list_any (eq x) seen) && all_new eq (seen ++ x ∷ []) xs
+
+-- no variable and no element of the set term stands twice
+abbrev pub set_once : SetTerm → Bool
+set_once u = all_new var_eq [] u.vars && all_new term_eq [] u.elems
+
+-- the set terms of the literal are without repeats
+abbrev pub lit_once : Lit → Bool
+lit_once (Same a b) = set_once a && set_once b
+lit_once (NotSame a b) = set_once a && set_once b
+lit_once (Member t b) = set_once b
+lit_once (NotMember t b) = set_once b
+lit_once (Sub a b) = set_once a && set_once b
+lit_once (NotSub a b) = set_once a && set_once b
+lit_once _ = true
+
 -- ---- what is asked
 
--- no set variable stands in the place of an integer and no other in that of a set, and no part of a set term stands twice
-abbrev pub is_well_written : Node → Bool
-is_well_written n = node_fits (λ v. not (is_set_var v)) is_set_var n
+-- no set variable stands in the place of an integer or a cardinality, and no other variable in that of a set
+abbrev pub is_sorted : Node → Bool
+is_sorted n = node_fits (λ v. not (is_set_var v)) is_set_var n
 
 -- what the law of normal forms asks of a node that is brought into normal form
 pub record IsRaw (n : Node) : Type 0 where
-  pub written : IsTrue (is_well_written n)
+  pub sorted : IsTrue (is_sorted n)
+  -- the set terms of its literals are without repeats
+  pub pre_once : IsTrue (list_all lit_once n.goal.pure_pre)
+  pub post_once : IsTrue (list_all lit_once n.goal.pure_post)
   -- no existential stands in the pure precondition
   pub exist_apart : IsTrue (list_all (λ v. not (var_in v (lits_vars n.goal.pure_pre))) n.goal.exist)

@@ -4,8 +4,8 @@ ghost use Rattle.cyp_goal.specs.Laws.{NormalOfNormal};
 ghost use Rattle.cyp_goal.specs.RenamingLaw.{LogicalRenamingLaw, RenamingLaw};
 
 /// Law: the normal form of a normal form is that normal form. It is asked that the node which was
-/// brought into normal form has no existential in its pure precondition, that its variables have the
-/// sorts of their places, and that no part of a set term stands twice.
+/// brought into normal form has variables of the sorts of their places, no part twice in a set term
+/// of a literal, and no existential in its pure precondition.
 pub fn normal_of_a_normal_form()
     ensures { NormalOfNormal }
 {}
