@@ -21,7 +21,7 @@ use Rattle.cyp_goal.specs.Numbering.{new_name, renumber}
 use Rattle.cyp_goal.specs.Pruning.{prune}
 use Rattle.cyp_goal.specs.Renamed.{AreNewNames}
 use Rattle.cyp_goal.specs.RenamingLaw.{LogicalRenamingLaw, known_vars, RenamingLaw}
-use Rattle.cyp_goal.specs.Raw.{is_well_written}
+use Rattle.cyp_goal.specs.Raw.{is_sorted}
 use Rattle.cyp_heap.specs.Chunks.{chunks_vars}
 use Rattle.cyp_heap.specs.Goals.{node_vars}
 use Rattle.cyp_heap.specs.Limits.{is_within_limits}

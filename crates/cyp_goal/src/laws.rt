@@ -11,14 +11,15 @@ pub fn normal_of_a_normal_form()
 {}
 
 /// Law: a node under new names for its variables has the normal form that it had, or none where it
-/// had none. What its program variables were called is renamed along. Each variable has the sort of
-/// its place and keeps it, and no part of a set term is written twice.
+/// had none. What its program variables were called is renamed along. It is asked that the new names
+/// tell the node's variables apart and keep their sorts, and that these are the sorts of their
+/// places.
 pub fn normal_under_new_names()
     ensures { RenamingLaw }
 {}
 
-/// Law: where the program variables keep their names the normal form stays as it was, old names
-/// among it, whatever the logical variables and existentials are called.
+/// Law: where the program variables keep their names the normal form stays as it was, whatever the
+/// logical variables and existentials are called. The same is asked.
 pub fn normal_under_new_logical_names()
     ensures { LogicalRenamingLaw }
 {}
