@@ -1,5 +1,5 @@
 -- New names for some variables go on to new names for all.
-use Rattle.std.proofs.Common.{◌≡◌, ◌∙◌, [], ◌∷◌, List, Bool, true, false, cond, map, ℕ, suc, ◌+◌, ◌<◌, refl, ap, sym, inl, inr, arith}
+use Rattle.std.proofs.Common.{◌≡◌, [], ◌∷◌, List, Bool, true, false, cond, map, ℕ, suc, ◌+◌, ◌<◌, refl, ap, sym, inl, inr, arith}
 use Rattle.std.proofs.lemmas.Bool.{both_ways, cond-true, false_from_ne_true}
 use Rattle.cyp_goal.proofs.Live.{among_in, in_among}
 use Rattle.cyp_goal.proofs.Rename.{IsRenaming}

@@ -1,5 +1,5 @@
 -- The steps before the last keep that variables have the sorts of their places, and the program variables in their order.
-use Rattle.std.proofs.Common.{◌≡◌, ◌∙◌, ◌&&◌, ◌||◌, List, Option, Some, None, Bool, true, map, filter, flat_map, length, ℕ, zero, suc, option_and_then, refl, ap, subst}
+use Rattle.std.proofs.Common.{◌≡◌, ◌∙◌, ◌&&◌, ◌||◌, List, Option, Some, None, Bool, true, map, flat_map, length, ℕ, zero, suc, refl, ap, subst}
 use Rattle.std.specs.List.{list_all}
 use Rattle.std.proofs.lemmas.Bool.{and_parts}
 use Rattle.std.proofs.lemmas.Option.{option_and_then_some, same_Some}
@@ -8,7 +8,7 @@ use Rattle.cyp_goal.proofs.Fits.{ImagesFit, chunk_fits-apply, link_fits-apply, l
 use Rattle.cyp_goal.proofs.PruneLeaves.{alive, filter_all, links_kept, live}
 use Rattle.cyp_goal.proofs.RenameSolve.{turn}
 use Rattle.cyp_goal.proofs.SolveLeaves.{cond_other}
-use Rattle.cyp_goal.proofs.SolvedLits.{SolvesFor, solved_any-by, solved_eq-by}
+use Rattle.cyp_goal.proofs.SolvedLits.{solved_any-by, solved_eq-by}
 use Rattle.cyp_goal.proofs.TidyLeaves.{address_lit_fits, addresses_fit, post_each, pre_each}
 use Rattle.cyp_goal.specs.Normal.{solve, tidy_node}
 use Rattle.cyp_goal.specs.Pruning.{is_kept, prune}
@@ -19,7 +19,7 @@ use Rattle.cyp_heap.specs.Chunks.{apply_chunk}
 use Rattle.cyp_heap.specs.Goals.{apply_link, apply_node, wide_node}
 use Rattle.cyp_heap.specs.declared.goal.Goal.{Goal}
 use Rattle.cyp_heap.specs.declared.goal.Node.{Node}
-use Rattle.cyp_term.proofs.Lists.{Among, each_at, each_from, map_from}
+use Rattle.cyp_term.proofs.Lists.{each_at, each_from, map_from}
 use Rattle.cyp_term.specs.Terms.{var_in}
 use Rattle.cyp_term.specs.declared.lit.Lit.{Lit}
 use Rattle.cyp_term.specs.declared.subst.Subst.{Subst}

@@ -1,20 +1,10 @@
 -- A node under a renaming of its variables.
-use Rattle.std.proofs.Common.{◌≡◌, Option, Some, None, ◌&&◌, map, refl, ap, ap₂}
+use Rattle.std.proofs.Common.{◌≡◌, Option, Some, None, ◌&&◌, refl, ap, ap₂}
 use Rattle.std.specs.Ordering.{int_eq}
-use Rattle.cyp_heap.specs.declared.chunk.Arg.{Arg}
-use Rattle.cyp_heap.specs.declared.chunk.Arg.TheVariants.{Int as IntArg, Set as SetArg}
-use Rattle.cyp_heap.specs.declared.chunk.Chunk.{Chunk}
-use Rattle.cyp_heap.specs.declared.chunk.Chunk.TheVariants.{Block, Cell, Inst}
-use Rattle.cyp_heap.specs.declared.goal.Goal.{Goal}
-use Rattle.cyp_heap.specs.declared.goal.Link.{Link}
-use Rattle.cyp_heap.specs.declared.goal.Node.{Node}
 use Rattle.cyp_term.specs.Terms.{base_eq, lit_eq, set_eq, term_eq, var_eq}
 use Rattle.cyp_term.specs.declared.lit.Lit.{Lit}
 use Rattle.cyp_term.specs.declared.lit.Lit.TheVariants.{Eq, Le, Lt, Member, Ne, NotMember, NotSame, NotSub, Same, Sub}
 use Rattle.cyp_term.specs.declared.lit.SetTerm.{SetTerm}
-use Rattle.cyp_term.specs.declared.subst.IntBind.{IntBind}
-use Rattle.cyp_term.specs.declared.subst.SetBind.{SetBind}
-use Rattle.cyp_term.specs.declared.subst.Subst.{Subst}
 use Rattle.cyp_term.specs.declared.term.Term.{Term}
 use Rattle.cyp_term.specs.declared.term.Var.{Var}
 use Rattle.cyp_goal.proofs.Maps.{lists_eq-map}

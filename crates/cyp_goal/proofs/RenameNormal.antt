@@ -1,12 +1,10 @@
 -- The normal form of a node under new names.
-use Rattle.std.proofs.Common.{◌≡◌, ◌∙◌, ◌⊎◌, [], ◌∷◌, ◌++◌, List, Option, Some, None, Bool, true, false, cond, not, map, filter, option_and_then, option_map, Decides, refl, ap, ap₂, sym, inl, inr, subst, ⊎_elim}
+use Rattle.std.proofs.Common.{◌≡◌, ◌∙◌, [], ◌∷◌, List, Option, Some, None, cond, map, option_and_then, option_map, refl, ap, sym, inl, inr, subst}
 use Rattle.std.proofs.lemmas.Option.{cond_some, option_and_then_some}
-use Rattle.cyp_goal.proofs.Live.{among_in, in_among}
+use Rattle.cyp_goal.proofs.Live.{among_in}
 use Rattle.cyp_goal.proofs.Maps.{at_cond}
 use Rattle.cyp_goal.proofs.NormalKeeps.{HasSorts, Kept, has_sorts, prune_keeps, solve_keeps, tidy_keeps}
-use Rattle.cyp_goal.proofs.Ranks.{IsRenaming-name_in, name_in, name_in-new, rank_in-rename}
 use Rattle.cyp_goal.proofs.Rename.{IsRenaming, rename_node}
-use Rattle.cyp_goal.proofs.RenameFits.{fit_renamed}
 use Rattle.cyp_goal.proofs.RenameNumbers.{renumber-rename}
 use Rattle.cyp_goal.proofs.RenamePrune.{prune-rename}
 use Rattle.cyp_goal.proofs.RenameSolve.{solve-rename}
@@ -14,22 +12,16 @@ use Rattle.cyp_goal.proofs.RenameTidy.{tidy_node-rename}
 use Rattle.cyp_goal.proofs.RenameSelf.{map_self, node_self, self}
 use Rattle.cyp_goal.proofs.RenameTwice.{node_twice}
 use Rattle.cyp_goal.proofs.Extended.{extended, extended_renames, extended_same}
-use Rattle.cyp_goal.proofs.RenameVars.{node_vars-rename}
-use Rattle.cyp_goal.proofs.Renumber.{no_set, of_post, of_program, of_pure_post, renumber-renames}
+use Rattle.cyp_goal.proofs.Renumber.{no_set, of_program}
 use Rattle.cyp_goal.specs.Normal.{Renaming, keep_limits, normal, solve, tidy_node}
-use Rattle.cyp_goal.specs.Numbering.{new_name, renumber}
+use Rattle.cyp_goal.specs.Numbering.{renumber}
 use Rattle.cyp_goal.specs.Pruning.{prune}
-use Rattle.cyp_goal.specs.Renamed.{AreNewNames}
 use Rattle.cyp_goal.specs.RenamingLaw.{LogicalRenamingLaw, known_vars, RenamingLaw}
-use Rattle.cyp_goal.specs.Raw.{is_sorted}
-use Rattle.cyp_heap.specs.Chunks.{chunks_vars}
 use Rattle.cyp_heap.specs.Goals.{node_vars}
 use Rattle.cyp_heap.specs.Limits.{is_within_limits}
 use Rattle.cyp_heap.specs.declared.goal.Node.{Node}
-use Rattle.cyp_term.proofs.Equality.{Decides-var_eq}
-use Rattle.cyp_term.proofs.Lists.{Among, Among-cases, Among-left, Among-right, Among-map, filter_out, map_from}
-use Rattle.cyp_term.specs.Terms.{is_set_var, lits_vars, sort_eq, var_eq, var_in}
-use Rattle.cyp_term.specs.declared.term.Sort.TheVariants.{Set}
+use Rattle.cyp_term.proofs.Lists.{Among, Among-left, Among-right, filter_out}
+use Rattle.cyp_term.specs.Terms.{is_set_var}
 use Rattle.cyp_term.specs.declared.term.Var.{Var}
 
 -- the old names renamed

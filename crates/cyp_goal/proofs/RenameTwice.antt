@@ -1,6 +1,6 @@
 -- Renaming twice is renaming once, by names that are the one behind the other for the variables that stand there.
-use Rattle.std.proofs.Common.{◌≡◌, ◌∙◌, [], ◌∷◌, ◌++◌, List, Option, Some, None, map, flat_map, refl, ap, ap₂, inl, inr}
-use Rattle.cyp_goal.proofs.Rename.{rename_arg, rename_base, rename_chunk, rename_goal, rename_images, rename_link, rename_lit, rename_node, rename_set, rename_term}
+use Rattle.std.proofs.Common.{◌≡◌, [], ◌∷◌, ◌++◌, List, Option, Some, None, map, flat_map, refl, ap, ap₂, inl, inr}
+use Rattle.cyp_goal.proofs.Rename.{rename_arg, rename_base, rename_chunk, rename_images, rename_link, rename_lit, rename_node, rename_set, rename_term}
 use Rattle.cyp_goal.proofs.RenameVars.{rename_int_bind, rename_set_bind}
 use Rattle.cyp_heap.specs.Chunks.{arg_vars, card_vars, chunk_vars, chunks_vars}
 use Rattle.cyp_heap.specs.Goals.{goal_vars, image_vars, node_vars}

@@ -4,6 +4,4 @@
 
 mod laws;
 
-pub use laws::{
-    normal_of_a_normal_form, normal_under_new_logical_names, normal_under_new_names,
-};
+pub use laws::{normal_of_a_normal_form, normal_under_new_logical_names, normal_under_new_names};
