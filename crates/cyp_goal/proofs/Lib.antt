@@ -20,6 +20,7 @@ pub mod PruneLeaves
 pub mod Ranks
 pub mod RenameFits
 pub mod RenameSelf
+pub mod EachVar
 pub mod RenameTwice
 pub mod Renumber
 pub mod NormalOfNormal

@@ -2,6 +2,7 @@
 use Rattle.std.proofs.Common.{◌≡◌, ◌∙◌, [], ◌∷◌, ◌++◌, List, Option, Some, None, Bool, true, ◌&&◌, not, map, filter, flat_map, ℤ, refl, ap, ap₂, sym, inl, inr}
 use Rattle.std.specs.List.{list_all}
 use Rattle.std.proofs.lemmas.Bool.{and_parts}
+use Rattle.cyp_goal.proofs.EachVar.{Each, EachPart, each, each_part, first, link_vars, second, two}
 use Rattle.cyp_goal.proofs.Fits.{set_parts}
 use Rattle.cyp_goal.proofs.Maps.{map_after}
 use Rattle.cyp_goal.proofs.NormalKeeps.{HasSorts}
@@ -21,7 +22,7 @@ use Rattle.cyp_heap.specs.declared.goal.Goal.{Goal}
 use Rattle.cyp_heap.specs.declared.goal.Link.{Link}
 use Rattle.cyp_heap.specs.declared.goal.Node.{Node}
 use Rattle.cyp_term.proofs.Equality.{Decides-var_eq}
-use Rattle.cyp_term.proofs.Lists.{Among, Among-left, Among-map, Among-right, filter_in}
+use Rattle.cyp_term.proofs.Lists.{Among, Among-map, each_at, filter_in}
 use Rattle.cyp_term.proofs.Repeats.{without_repeats_in}
 use Rattle.cyp_term.specs.Terms.{apply_lit, apply_set, apply_term, base_vars, image_or_self, int_image, is_set_var, lit_vars, lits_vars, set_image, set_var, set_vars, sort_eq, term_at, term_eq, term_vars, var_at, var_eq, var_term, without_repeats}
 use Rattle.cyp_term.specs.declared.lit.Lit.{Lit}
@@ -42,15 +43,12 @@ module _ (r : Var → Var) (is : IsRenaming r) (vs : List Var) where
   abbrev behind : Subst
   behind = numbering (map r vs)
 
-  -- each of these is in the list
+  -- it is in the list
+  abbrev Known : Var → Type 0
+  Known v = Among v vs
+
   abbrev In : List Var → Type 0
-  In us = (v : Var) → Among v us → Among v vs
-
-  first : (us ws : List Var) → In (us ++ ws) → In us
-  first us ws e v k = e v (Among-left v us ws k)
-
-  second : (us ws : List Var) → In (us ++ ws) → In ws
-  second us ws e v k = e v (Among-right v us ws k)
+  In us = Each Known us
 
   -- ---- images
 
@@ -76,22 +74,15 @@ module _ (r : Var → Var) (is : IsRenaming r) (vs : List Var) where
       (filter_in is_set_var (r v) (map r vs) (Among-map r v vs k) (ap (λ s. sort_eq s Set) (is.sort v) ∙ h))
       ∙ ap (λ w. Some (set_var w)) (new_name-rename v)
 
-  -- ---- lists and pairs
+  -- ---- lists and pairs of parts that pass a test
 
-  each : {A B C : Type 0} (f : A → B) (g : A → C) (k : B → C) (test : A → Bool) (vars : A → List Var) → ((x : A) → test x ≡ true → In (vars x) → k (f x) ≡ g x)
+  all_numbers : {A B C : Type 0} (f : A → B) (g : A → C) (k : B → C) (test : A → Bool) (vars : A → List Var) → ((x : A) → test x ≡ true → In (vars x) → k (f x) ≡ g x)
       → (xs : List A) → list_all test xs ≡ true → In (flat_map vars xs) → map k (map f xs) ≡ map g xs
-  each f g k test vars p [] h e = refl
-  each f g k test vars p (x ∷ xs) h e =
-      let both = and_parts (test x) (list_all test xs) h in
-      let here = p x both.0 (first (vars x) (flat_map vars xs) e) in
-      let rest = each f g k test vars p xs both.1 (second (vars x) (flat_map vars xs) e) in
-      λ i. here i ∷ rest i
+  all_numbers f g k test vars p xs h e = each Known f g k vars xs (λ x i. p x (each_at test x xs h i)) e
 
-  two : {A B C : Type 0} (f : A → B → C) (a a' : A) (b b' : B) (x y : Bool) (us ws : List Var) → (x ≡ true → In us → a ≡ a') → (y ≡ true → In ws → b ≡ b')
+  both_numbers : {A B C : Type 0} (f : A → B → C) (a a' : A) (b b' : B) (x y : Bool) (us ws : List Var) → (x ≡ true → In us → a ≡ a') → (y ≡ true → In ws → b ≡ b')
       → (x && y) ≡ true → In (us ++ ws) → f a b ≡ f a' b'
-  two f a a' b b' x y us ws p q h e =
-      let both = and_parts x y h in
-      ap₂ f (p both.0 (first us ws e)) (q both.1 (second us ws e))
+  both_numbers f a a' b b' x y us ws p q h e = let both = and_parts x y h in two Known f a a' b b' us ws (p both.0) (q both.1) e
 
   -- ---- terms
 
@@ -107,7 +98,7 @@ module _ (r : Var → Var) (is : IsRenaming r) (vs : List Var) where
   term_numbers t h e = base_numbers t.base t.offset h e
 
   terms_numbers : (ts : List Term) → list_all (term_fits no_set) ts ≡ true → In (flat_map term_vars ts) → map (apply_term behind) (map (rename_term r) ts) ≡ map (apply_term before) ts
-  terms_numbers ts h e = each (rename_term r) (apply_term before) (apply_term behind) (term_fits no_set) term_vars term_numbers ts h e
+  terms_numbers ts h e = all_numbers (rename_term r) (apply_term before) (apply_term behind) (term_fits no_set) term_vars term_numbers ts h e
 
   abbrev image : Subst → Var → SetTerm
   image by v = image_or_self v (set_image by.sets v)
@@ -123,8 +114,8 @@ module _ (r : Var → Var) (is : IsRenaming r) (vs : List Var) where
   set_numbers : (u : SetTerm) → set_fits no_set is_set_var u ≡ true → In (set_vars u) → apply_set behind (rename_set r u) ≡ apply_set before u
   set_numbers u h e =
       let f = set_parts no_set is_set_var u h in
-      let images = images_numbers u.vars f.vars (first u.vars (flat_map term_vars u.elems) e) in
-      let elems = terms_numbers u.elems f.elems (second u.vars (flat_map term_vars u.elems) e) in
+      let images = images_numbers u.vars f.vars (first Known u.vars (flat_map term_vars u.elems) e) in
+      let elems = terms_numbers u.elems f.elems (second Known u.vars (flat_map term_vars u.elems) e) in
       λ i. record {
         vars = without_repeats var_eq (flat_map (λ (p : SetTerm). p.vars) (images i));
         elems = without_repeats term_eq (flat_map (λ (p : SetTerm). p.elems) (images i) ++ elems i);
@@ -134,15 +125,15 @@ module _ (r : Var → Var) (is : IsRenaming r) (vs : List Var) where
 
   two_terms : (f : Term → Term → Lit) (a b : Term) → (term_fits no_set a && term_fits no_set b) ≡ true → In (term_vars a ++ term_vars b)
       → f (apply_term behind (rename_term r a)) (apply_term behind (rename_term r b)) ≡ f (apply_term before a) (apply_term before b)
-  two_terms f a b h e = two f _ _ _ _ (term_fits no_set a) (term_fits no_set b) (term_vars a) (term_vars b) (term_numbers a) (term_numbers b) h e
+  two_terms f a b h e = both_numbers f _ _ _ _ (term_fits no_set a) (term_fits no_set b) (term_vars a) (term_vars b) (term_numbers a) (term_numbers b) h e
 
   two_sets : (f : SetTerm → SetTerm → Lit) (a b : SetTerm) → (set_fits no_set is_set_var a && set_fits no_set is_set_var b) ≡ true → In (set_vars a ++ set_vars b)
       → f (apply_set behind (rename_set r a)) (apply_set behind (rename_set r b)) ≡ f (apply_set before a) (apply_set before b)
-  two_sets f a b h e = two f _ _ _ _ (set_fits no_set is_set_var a) (set_fits no_set is_set_var b) (set_vars a) (set_vars b) (set_numbers a) (set_numbers b) h e
+  two_sets f a b h e = both_numbers f _ _ _ _ (set_fits no_set is_set_var a) (set_fits no_set is_set_var b) (set_vars a) (set_vars b) (set_numbers a) (set_numbers b) h e
 
   term_and_set : (f : Term → SetTerm → Lit) (a : Term) (b : SetTerm) → (term_fits no_set a && set_fits no_set is_set_var b) ≡ true → In (term_vars a ++ set_vars b)
       → f (apply_term behind (rename_term r a)) (apply_set behind (rename_set r b)) ≡ f (apply_term before a) (apply_set before b)
-  term_and_set f a b h e = two f _ _ _ _ (term_fits no_set a) (set_fits no_set is_set_var b) (term_vars a) (set_vars b) (term_numbers a) (set_numbers b) h e
+  term_and_set f a b h e = both_numbers f _ _ _ _ (term_fits no_set a) (set_fits no_set is_set_var b) (term_vars a) (set_vars b) (term_numbers a) (set_numbers b) h e
 
   lit_numbers : (l : Lit) → lit_fits no_set is_set_var l ≡ true → In (lit_vars l) → apply_lit behind (rename_lit r l) ≡ apply_lit before l
   lit_numbers (Eq a b) = two_terms Eq a b
@@ -157,7 +148,7 @@ module _ (r : Var → Var) (is : IsRenaming r) (vs : List Var) where
   lit_numbers (NotSub a b) = two_sets NotSub a b
 
   lits_numbers : (ls : List Lit) → list_all (lit_fits no_set is_set_var) ls ≡ true → In (lits_vars ls) → map (apply_lit behind) (map (rename_lit r) ls) ≡ map (apply_lit before) ls
-  lits_numbers ls h e = each (rename_lit r) (apply_lit before) (apply_lit behind) (lit_fits no_set is_set_var) lit_vars lit_numbers ls h e
+  lits_numbers ls h e = all_numbers (rename_lit r) (apply_lit before) (apply_lit behind) (lit_fits no_set is_set_var) lit_vars lit_numbers ls h e
 
   arg_numbers : (a : Arg) → arg_fits no_set is_set_var a ≡ true → In (arg_vars a) → apply_arg behind (rename_arg r a) ≡ apply_arg before a
   arg_numbers (IntArg t) h e = ap IntArg (term_numbers t h e)
@@ -171,16 +162,16 @@ module _ (r : Var → Var) (is : IsRenaming r) (vs : List Var) where
 
   chunk_numbers : (c : Chunk) → chunk_fits no_set is_set_var c ≡ true → In (chunk_vars c) → apply_chunk behind (rename_chunk r c) ≡ apply_chunk before c
   chunk_numbers (Inst k) h e =
-      two (λ xs c. Inst (record { pred = k.pred; args = xs; card = c; tag = k.tag })) _ _ _ _ (list_all (arg_fits no_set is_set_var) k.args) (list_all no_set (card_vars k.card))
+      both_numbers (λ xs c. Inst (record { pred = k.pred; args = xs; card = c; tag = k.tag })) _ _ _ _ (list_all (arg_fits no_set is_set_var) k.args) (list_all no_set (card_vars k.card))
       (flat_map arg_vars k.args) (card_vars k.card)
-      (each (rename_arg r) (apply_arg before) (apply_arg behind) (arg_fits no_set is_set_var) arg_vars arg_numbers k.args) (card_numbers k.card) h e
+      (all_numbers (rename_arg r) (apply_arg before) (apply_arg behind) (arg_fits no_set is_set_var) arg_vars arg_numbers k.args) (card_numbers k.card) h e
   chunk_numbers (Block k) h e = ap (λ t. Block (record { at = t; size = k.size })) (term_numbers k.at h e)
   chunk_numbers (Cell k) h e =
-      two (λ t u. Cell (record { at = t; content = u })) _ _ _ _ (term_fits no_set k.at) (term_fits no_set k.content) (term_vars k.at) (term_vars k.content)
+      both_numbers (λ t u. Cell (record { at = t; content = u })) _ _ _ _ (term_fits no_set k.at) (term_fits no_set k.content) (term_vars k.at) (term_vars k.content)
       (term_numbers k.at) (term_numbers k.content) h e
 
   chunks_numbers : (cs : List Chunk) → list_all (chunk_fits no_set is_set_var) cs ≡ true → In (chunks_vars cs) → map (apply_chunk behind) (map (rename_chunk r) cs) ≡ map (apply_chunk before) cs
-  chunks_numbers cs h e = each (rename_chunk r) (apply_chunk before) (apply_chunk behind) (chunk_fits no_set is_set_var) chunk_vars chunk_numbers cs h e
+  chunks_numbers cs h e = all_numbers (rename_chunk r) (apply_chunk before) (apply_chunk behind) (chunk_fits no_set is_set_var) chunk_vars chunk_numbers cs h e
 
   -- ---- links
 
@@ -195,17 +186,14 @@ module _ (r : Var → Var) (is : IsRenaming r) (vs : List Var) where
 
   map_numbers : (m : Subst) → images_fit no_set is_set_var m ≡ true → In (image_vars m) → apply_images behind (rename_images r m) ≡ apply_images before m
   map_numbers m h e =
-      two {C = Subst} (λ xs us. record { ints = xs; sets = us }) _ _ _ _ (list_all int_fits m.ints) (list_all set_bind_fits m.sets)
+      both_numbers {C = Subst} (λ xs us. record { ints = xs; sets = us }) _ _ _ _ (list_all int_fits m.ints) (list_all set_bind_fits m.sets)
       (flat_map (λ (b : IntBind). term_vars b.to) m.ints) (flat_map (λ (b : SetBind). set_vars b.to) m.sets)
-      (each (rename_int_bind r) (apply_bind before) (apply_bind behind) int_fits (λ (b : IntBind). term_vars b.to) (λ b p k. ap (λ t. record { var = b.var; to = t }) (term_numbers b.to p k)) m.ints)
-      (each (rename_set_bind r) (apply_set_bind before) (apply_set_bind behind) set_bind_fits (λ (b : SetBind). set_vars b.to) (λ b p k. ap (λ u. record { var = b.var; to = u }) (set_numbers b.to p k)) m.sets) h e
-
-  abbrev link_vars : Link → List Var
-  link_vars k = flat_map term_vars k.tuple ++ image_vars k.map
+      (all_numbers (rename_int_bind r) (apply_bind before) (apply_bind behind) int_fits (λ (b : IntBind). term_vars b.to) (λ b p k. ap (λ t. record { var = b.var; to = t }) (term_numbers b.to p k)) m.ints)
+      (all_numbers (rename_set_bind r) (apply_set_bind before) (apply_set_bind behind) set_bind_fits (λ (b : SetBind). set_vars b.to) (λ b p k. ap (λ u. record { var = b.var; to = u }) (set_numbers b.to p k)) m.sets) h e
 
   link_numbers : (k : Link) → link_fits no_set is_set_var k ≡ true → In (link_vars k) → apply_link behind (rename_link r k) ≡ apply_link before k
   link_numbers k h e =
-      two {C = Link} (λ ts m. record { goal = k.goal; own = k.own; map = m; tuple = ts }) _ _ _ _ (list_all (term_fits no_set) k.tuple) (images_fit no_set is_set_var k.map)
+      both_numbers {C = Link} (λ ts m. record { goal = k.goal; own = k.own; map = m; tuple = ts }) _ _ _ _ (list_all (term_fits no_set) k.tuple) (images_fit no_set is_set_var k.map)
       (flat_map term_vars k.tuple) (image_vars k.map) (terms_numbers k.tuple) (map_numbers k.map) h e
 
   -- ---- nodes
@@ -219,22 +207,14 @@ module _ (r : Var → Var) (is : IsRenaming r) (vs : List Var) where
   node_numbers : (n : Node) → HasSorts no_set is_set_var n → In (node_vars n) → numbered (map r vs) (rename_node r n) ≡ numbered vs n
   node_numbers n f e =
       let g : Goal = n.goal in
-      let later : List Var = flat_map link_vars n.links in
-      let all : In (goal_vars g ++ later) = λ v k. e v (without_repeats_in var_eq Decides-var_eq v (goal_vars g ++ later) k) in
-      let c : List Var = g.program ++ chunks_vars g.pre.chunks in
-      let b : List Var = c ++ chunks_vars g.post.chunks in
-      let a : List Var = b ++ lits_vars g.pure_pre in
-      let of_goal : In (a ++ lits_vars g.pure_post) = first (goal_vars g) later all in
-      let of_a : In a = first a (lits_vars g.pure_post) of_goal in
-      let of_b : In b = first b (lits_vars g.pure_pre) of_a in
-      let of_c : In c = first c (chunks_vars g.post.chunks) of_b in
+      let parts : EachPart Known n = each_part Known n e in
       let program = map_after r (new_name vs) (new_name (map r vs)) new_name-rename g.program in
       let exist = map_after r (new_name vs) (new_name (map r vs)) new_name-rename g.exist in
-      let pure_pre = lits_numbers g.pure_pre f.pure_pre (second b (lits_vars g.pure_pre) of_a) in
-      let pre = chunks_numbers g.pre.chunks f.pre (second g.program (chunks_vars g.pre.chunks) of_c) in
-      let pure_post = lits_numbers g.pure_post f.pure_post (second a (lits_vars g.pure_post) of_goal) in
-      let post = chunks_numbers g.post.chunks f.post (second c (chunks_vars g.post.chunks) of_b) in
-      let links = each (rename_link r) (apply_link before) (apply_link behind) (link_fits no_set is_set_var) link_vars link_numbers n.links f.links (second (goal_vars g) later all) in
+      let pure_pre = lits_numbers g.pure_pre f.pure_pre parts.pure_pre in
+      let pre = chunks_numbers g.pre.chunks f.pre parts.pre in
+      let pure_post = lits_numbers g.pure_post f.pure_post parts.pure_post in
+      let post = chunks_numbers g.post.chunks f.post parts.post in
+      let links = all_numbers (rename_link r) (apply_link before) (apply_link behind) (link_fits no_set is_set_var) link_vars link_numbers n.links f.links parts.links in
       λ i. record {
         preds = n.preds;
         goal = record { program = program i; exist = exist i; pure_pre = pure_pre i; pre = record { chunks = pre i }; pure_post = pure_post i; post = record { chunks = post i } };

@@ -1,5 +1,6 @@
 -- Renaming twice is renaming once, by names that are the one behind the other for the variables that stand there.
 use Rattle.std.proofs.Common.{◌≡◌, [], ◌∷◌, ◌++◌, List, Option, Some, None, map, flat_map, refl, ap, ap₂, inl, inr}
+use Rattle.cyp_goal.proofs.EachVar.{Each, EachPart, each, each_part, link_vars, two}
 use Rattle.cyp_goal.proofs.Rename.{rename_arg, rename_base, rename_chunk, rename_images, rename_link, rename_lit, rename_node, rename_set, rename_term}
 use Rattle.cyp_goal.proofs.RenameVars.{rename_int_bind, rename_set_bind}
 use Rattle.cyp_heap.specs.Chunks.{arg_vars, card_vars, chunk_vars, chunks_vars}
@@ -25,26 +26,12 @@ use Rattle.cyp_term.specs.declared.term.Term.{Term}
 use Rattle.cyp_term.specs.declared.term.Var.{Var}
 
 module _ (r s h : Var → Var) where
-  -- for each of these h is s behind r
+  -- h is s behind r
+  abbrev Agrees : Var → Type 0
+  Agrees v = s (r v) ≡ h v
+
   abbrev pub Behind : List Var → Type 0
-  Behind vs = (v : Var) → Among v vs → s (r v) ≡ h v
-
-  first : (us ws : List Var) → Behind (us ++ ws) → Behind us
-  first us ws e v k = e v (Among-left v us ws k)
-
-  second : (us ws : List Var) → Behind (us ++ ws) → Behind ws
-  second us ws e v k = e v (Among-right v us ws k)
-
-  two : {A B C : Type 0} (f : A → B → C) (a a' : A) (b b' : B) (us ws : List Var) → (Behind us → a ≡ a') → (Behind ws → b ≡ b') → Behind (us ++ ws) → f a b ≡ f a' b'
-  two f a a' b b' us ws p q e = ap₂ f (p (first us ws e)) (q (second us ws e))
-
-  each : {A B C : Type 0} (f : A → B) (g : A → C) (k : B → C) (vars : A → List Var) → ((x : A) → Behind (vars x) → k (f x) ≡ g x)
-      → (xs : List A) → Behind (flat_map vars xs) → map k (map f xs) ≡ map g xs
-  each f g k vars p [] e = refl
-  each f g k vars p (x ∷ xs) e =
-      let here = p x (first (vars x) (flat_map vars xs) e) in
-      let rest = each f g k vars p xs (second (vars x) (flat_map vars xs) e) in
-      λ i. here i ∷ rest i
+  Behind vs = Each Agrees vs
 
   base_twice : (b : Option Var) → Behind (base_vars b) → rename_base s (rename_base r b) ≡ rename_base h b
   base_twice None e = refl
@@ -65,22 +52,22 @@ module _ (r s h : Var → Var) where
       λ i. here i ∷ rest i
 
   terms_twice : (ts : List Term) → Behind (flat_map term_vars ts) → map (rename_term s) (map (rename_term r) ts) ≡ map (rename_term h) ts
-  terms_twice ts e = each (rename_term r) (rename_term h) (rename_term s) term_vars term_twice ts e
+  terms_twice ts e = each Agrees (rename_term r) (rename_term h) (rename_term s) term_vars ts (λ t _. term_twice t) e
 
   set_twice : (u : SetTerm) → Behind (set_vars u) → rename_set s (rename_set r u) ≡ rename_set h u
-  set_twice u e = two {C = SetTerm} (λ vs ts. record { vars = vs; elems = ts }) _ _ _ _ u.vars (flat_map term_vars u.elems) (vars_twice u.vars) (terms_twice u.elems) e
+  set_twice u e = two Agrees {C = SetTerm} (λ vs ts. record { vars = vs; elems = ts }) _ _ _ _ u.vars (flat_map term_vars u.elems) (vars_twice u.vars) (terms_twice u.elems) e
 
   two_terms : (f : Term → Term → Lit) (a b : Term) → Behind (term_vars a ++ term_vars b)
       → f (rename_term s (rename_term r a)) (rename_term s (rename_term r b)) ≡ f (rename_term h a) (rename_term h b)
-  two_terms f a b e = two f _ _ _ _ (term_vars a) (term_vars b) (term_twice a) (term_twice b) e
+  two_terms f a b e = two Agrees f _ _ _ _ (term_vars a) (term_vars b) (term_twice a) (term_twice b) e
 
   two_sets : (f : SetTerm → SetTerm → Lit) (a b : SetTerm) → Behind (set_vars a ++ set_vars b)
       → f (rename_set s (rename_set r a)) (rename_set s (rename_set r b)) ≡ f (rename_set h a) (rename_set h b)
-  two_sets f a b e = two f _ _ _ _ (set_vars a) (set_vars b) (set_twice a) (set_twice b) e
+  two_sets f a b e = two Agrees f _ _ _ _ (set_vars a) (set_vars b) (set_twice a) (set_twice b) e
 
   term_and_set : (f : Term → SetTerm → Lit) (a : Term) (b : SetTerm) → Behind (term_vars a ++ set_vars b)
       → f (rename_term s (rename_term r a)) (rename_set s (rename_set r b)) ≡ f (rename_term h a) (rename_set h b)
-  term_and_set f a b e = two f _ _ _ _ (term_vars a) (set_vars b) (term_twice a) (set_twice b) e
+  term_and_set f a b e = two Agrees f _ _ _ _ (term_vars a) (set_vars b) (term_twice a) (set_twice b) e
 
   lit_twice : (l : Lit) → Behind (lit_vars l) → rename_lit s (rename_lit r l) ≡ rename_lit h l
   lit_twice (Eq a b) = two_terms Eq a b
@@ -95,7 +82,7 @@ module _ (r s h : Var → Var) where
   lit_twice (NotSub a b) = two_sets NotSub a b
 
   lits_twice : (ls : List Lit) → Behind (lits_vars ls) → map (rename_lit s) (map (rename_lit r) ls) ≡ map (rename_lit h) ls
-  lits_twice ls e = each (rename_lit r) (rename_lit h) (rename_lit s) lit_vars lit_twice ls e
+  lits_twice ls e = each Agrees (rename_lit r) (rename_lit h) (rename_lit s) lit_vars ls (λ l _. lit_twice l) e
 
   arg_twice : (a : Arg) → Behind (arg_vars a) → rename_arg s (rename_arg r a) ≡ rename_arg h a
   arg_twice (IntArg t) e = ap IntArg (term_twice t e)
@@ -103,46 +90,37 @@ module _ (r s h : Var → Var) where
 
   chunk_twice : (c : Chunk) → Behind (chunk_vars c) → rename_chunk s (rename_chunk r c) ≡ rename_chunk h c
   chunk_twice (Inst k) e =
-      two (λ xs c. Inst (record { pred = k.pred; args = xs; card = c; tag = k.tag })) _ _ _ _ (flat_map arg_vars k.args) (card_vars k.card)
-      (each (rename_arg r) (rename_arg h) (rename_arg s) arg_vars arg_twice k.args) (card_twice k.card) e
+      two Agrees (λ xs c. Inst (record { pred = k.pred; args = xs; card = c; tag = k.tag })) _ _ _ _ (flat_map arg_vars k.args) (card_vars k.card)
+      (each Agrees (rename_arg r) (rename_arg h) (rename_arg s) arg_vars k.args (λ a _. arg_twice a)) (card_twice k.card) e
   chunk_twice (Block k) e = ap (λ t. Block (record { at = t; size = k.size })) (term_twice k.at e)
-  chunk_twice (Cell k) e = two (λ t u. Cell (record { at = t; content = u })) _ _ _ _ (term_vars k.at) (term_vars k.content) (term_twice k.at) (term_twice k.content) e
+  chunk_twice (Cell k) e = two Agrees (λ t u. Cell (record { at = t; content = u })) _ _ _ _ (term_vars k.at) (term_vars k.content) (term_twice k.at) (term_twice k.content) e
 
   chunks_twice : (cs : List Chunk) → Behind (chunks_vars cs) → map (rename_chunk s) (map (rename_chunk r) cs) ≡ map (rename_chunk h) cs
-  chunks_twice cs e = each (rename_chunk r) (rename_chunk h) (rename_chunk s) chunk_vars chunk_twice cs e
+  chunks_twice cs e = each Agrees (rename_chunk r) (rename_chunk h) (rename_chunk s) chunk_vars cs (λ c _. chunk_twice c) e
 
   images_twice : (m : Subst) → Behind (image_vars m) → rename_images s (rename_images r m) ≡ rename_images h m
   images_twice m e =
-      two {C = Subst} (λ is us. record { ints = is; sets = us }) _ _ _ _ (flat_map (λ (b : IntBind). term_vars b.to) m.ints) (flat_map (λ (b : SetBind). set_vars b.to) m.sets)
-      (each (rename_int_bind r) (rename_int_bind h) (rename_int_bind s) (λ (b : IntBind). term_vars b.to) (λ b k. ap (λ t. record { var = b.var; to = t }) (term_twice b.to k)) m.ints)
-      (each (rename_set_bind r) (rename_set_bind h) (rename_set_bind s) (λ (b : SetBind). set_vars b.to) (λ b k. ap (λ u. record { var = b.var; to = u }) (set_twice b.to k)) m.sets) e
-
-  abbrev link_vars : Link → List Var
-  link_vars k = flat_map term_vars k.tuple ++ image_vars k.map
+      two Agrees {C = Subst} (λ is us. record { ints = is; sets = us }) _ _ _ _ (flat_map (λ (b : IntBind). term_vars b.to) m.ints) (flat_map (λ (b : SetBind). set_vars b.to) m.sets)
+      (each Agrees (rename_int_bind r) (rename_int_bind h) (rename_int_bind s) (λ (b : IntBind). term_vars b.to) m.ints
+      (λ b _ k. ap (λ t. record { var = b.var; to = t }) (term_twice b.to k)))
+      (each Agrees (rename_set_bind r) (rename_set_bind h) (rename_set_bind s) (λ (b : SetBind). set_vars b.to) m.sets
+      (λ b _ k. ap (λ u. record { var = b.var; to = u }) (set_twice b.to k))) e
 
   link_twice : (k : Link) → Behind (link_vars k) → rename_link s (rename_link r k) ≡ rename_link h k
   link_twice k e =
-      two {C = Link} (λ ts m. record { goal = k.goal; own = k.own; map = m; tuple = ts }) _ _ _ _ (flat_map term_vars k.tuple) (image_vars k.map) (terms_twice k.tuple) (images_twice k.map) e
+      two Agrees {C = Link} (λ ts m. record { goal = k.goal; own = k.own; map = m; tuple = ts }) _ _ _ _ (flat_map term_vars k.tuple) (image_vars k.map) (terms_twice k.tuple) (images_twice k.map) e
 
   pub node_twice : (n : Node) → Behind (node_vars n) → Behind n.goal.exist → rename_node s (rename_node r n) ≡ rename_node h n
   node_twice n e of_exist =
       let g : Goal = n.goal in
-      let later : List Var = flat_map link_vars n.links in
-      let all : Behind (goal_vars g ++ later) = λ v k. e v (without_repeats_in var_eq Decides-var_eq v (goal_vars g ++ later) k) in
-      let c : List Var = g.program ++ chunks_vars g.pre.chunks in
-      let b : List Var = c ++ chunks_vars g.post.chunks in
-      let a : List Var = b ++ lits_vars g.pure_pre in
-      let of_goal : Behind (a ++ lits_vars g.pure_post) = first (goal_vars g) later all in
-      let of_a : Behind a = first a (lits_vars g.pure_post) of_goal in
-      let of_b : Behind b = first b (lits_vars g.pure_pre) of_a in
-      let of_c : Behind c = first c (chunks_vars g.post.chunks) of_b in
-      let program = vars_twice g.program (first g.program (chunks_vars g.pre.chunks) of_c) in
+      let parts : EachPart Agrees n = each_part Agrees n e in
+      let program = vars_twice g.program parts.program in
       let exist = vars_twice g.exist of_exist in
-      let pure_pre = lits_twice g.pure_pre (second b (lits_vars g.pure_pre) of_a) in
-      let pre = chunks_twice g.pre.chunks (second g.program (chunks_vars g.pre.chunks) of_c) in
-      let pure_post = lits_twice g.pure_post (second a (lits_vars g.pure_post) of_goal) in
-      let post = chunks_twice g.post.chunks (second c (chunks_vars g.post.chunks) of_b) in
-      let links = each (rename_link r) (rename_link h) (rename_link s) link_vars link_twice n.links (second (goal_vars g) later all) in
+      let pure_pre = lits_twice g.pure_pre parts.pure_pre in
+      let pre = chunks_twice g.pre.chunks parts.pre in
+      let pure_post = lits_twice g.pure_post parts.pure_post in
+      let post = chunks_twice g.post.chunks parts.post in
+      let links = each Agrees (rename_link r) (rename_link h) (rename_link s) link_vars n.links (λ k _. link_twice k) parts.links in
       λ i. record {
         preds = n.preds;
         goal = record { program = program i; exist = exist i; pure_pre = pure_pre i; pre = record { chunks = pre i }; pure_post = pure_post i; post = record { chunks = post i } };
