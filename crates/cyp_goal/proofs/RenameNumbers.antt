@@ -1,5 +1,5 @@
 -- A node under new names has the numbers that it had.
-use Rattle.std.proofs.Common.{◌≡◌, ◌∙◌, [], ◌∷◌, ◌++◌, List, Option, Some, None, Bool, true, ◌&&◌, not, map, filter, flat_map, ℤ, refl, ap, ap₂, sym, inl, inr}
+use Rattle.std.proofs.Common.{◌≡◌, ◌∙◌, [], ◌∷◌, ◌++◌, List, Option, Some, None, Bool, true, ◌&&◌, not, map, filter, flat_map, ℤ, refl, ap, sym, inl, inr}
 use Rattle.std.specs.List.{list_all}
 use Rattle.std.proofs.lemmas.Bool.{and_parts}
 use Rattle.cyp_goal.proofs.EachVar.{Each, EachPart, each, each_part, first, link_vars, second, two}
@@ -13,7 +13,7 @@ use Rattle.cyp_goal.proofs.Renumber.{int_image_at, no_set, set_image_at}
 use Rattle.cyp_goal.specs.Numbering.{new_name, numbering, renumber}
 use Rattle.cyp_goal.specs.Raw.{arg_fits, chunk_fits, images_fit, link_fits, lit_fits, set_fits, term_fits}
 use Rattle.cyp_heap.specs.Chunks.{apply_arg, apply_card, apply_chunk, arg_vars, card_vars, chunk_vars, chunks_vars}
-use Rattle.cyp_heap.specs.Goals.{apply_bind, apply_link, apply_node, apply_set_bind, goal_vars, image_vars, node_vars}
+use Rattle.cyp_heap.specs.Goals.{apply_bind, apply_link, apply_node, apply_set_bind, image_vars, node_vars}
 use Rattle.cyp_heap.specs.declared.chunk.Arg.{Arg}
 use Rattle.cyp_heap.specs.declared.chunk.Arg.TheVariants.{Int as IntArg, Set as SetArg}
 use Rattle.cyp_heap.specs.declared.chunk.Chunk.{Chunk}
@@ -21,9 +21,7 @@ use Rattle.cyp_heap.specs.declared.chunk.Chunk.TheVariants.{Block, Cell, Inst}
 use Rattle.cyp_heap.specs.declared.goal.Goal.{Goal}
 use Rattle.cyp_heap.specs.declared.goal.Link.{Link}
 use Rattle.cyp_heap.specs.declared.goal.Node.{Node}
-use Rattle.cyp_term.proofs.Equality.{Decides-var_eq}
 use Rattle.cyp_term.proofs.Lists.{Among, Among-map, each_at, filter_in}
-use Rattle.cyp_term.proofs.Repeats.{without_repeats_in}
 use Rattle.cyp_term.specs.Terms.{apply_lit, apply_set, apply_term, base_vars, image_or_self, int_image, is_set_var, lit_vars, lits_vars, set_image, set_var, set_vars, sort_eq, term_at, term_eq, term_vars, var_at, var_eq, var_term, without_repeats}
 use Rattle.cyp_term.specs.declared.lit.Lit.{Lit}
 use Rattle.cyp_term.specs.declared.lit.Lit.TheVariants.{Eq, Le, Lt, Member, Ne, NotMember, NotSame, NotSub, Same, Sub}

@@ -1,10 +1,10 @@
 -- Renaming twice is renaming once, by names that are the one behind the other for the variables that stand there.
-use Rattle.std.proofs.Common.{◌≡◌, [], ◌∷◌, ◌++◌, List, Option, Some, None, map, flat_map, refl, ap, ap₂, inl, inr}
+use Rattle.std.proofs.Common.{◌≡◌, [], ◌∷◌, ◌++◌, List, Option, Some, None, map, flat_map, refl, ap, inl, inr}
 use Rattle.cyp_goal.proofs.EachVar.{Each, EachPart, each, each_part, link_vars, two}
 use Rattle.cyp_goal.proofs.Rename.{rename_arg, rename_base, rename_chunk, rename_images, rename_link, rename_lit, rename_node, rename_set, rename_term}
 use Rattle.cyp_goal.proofs.RenameVars.{rename_int_bind, rename_set_bind}
 use Rattle.cyp_heap.specs.Chunks.{arg_vars, card_vars, chunk_vars, chunks_vars}
-use Rattle.cyp_heap.specs.Goals.{goal_vars, image_vars, node_vars}
+use Rattle.cyp_heap.specs.Goals.{image_vars, node_vars}
 use Rattle.cyp_heap.specs.declared.chunk.Arg.{Arg}
 use Rattle.cyp_heap.specs.declared.chunk.Arg.TheVariants.{Int as IntArg, Set as SetArg}
 use Rattle.cyp_heap.specs.declared.chunk.Chunk.{Chunk}
@@ -12,10 +12,7 @@ use Rattle.cyp_heap.specs.declared.chunk.Chunk.TheVariants.{Block, Cell, Inst}
 use Rattle.cyp_heap.specs.declared.goal.Goal.{Goal}
 use Rattle.cyp_heap.specs.declared.goal.Link.{Link}
 use Rattle.cyp_heap.specs.declared.goal.Node.{Node}
-use Rattle.cyp_term.proofs.Equality.{Decides-var_eq}
-use Rattle.cyp_term.proofs.Lists.{Among, Among-left, Among-right}
-use Rattle.cyp_term.proofs.Repeats.{without_repeats_in}
-use Rattle.cyp_term.specs.Terms.{base_vars, lit_vars, lits_vars, set_vars, term_vars, var_eq}
+use Rattle.cyp_term.specs.Terms.{base_vars, lit_vars, lits_vars, set_vars, term_vars}
 use Rattle.cyp_term.specs.declared.lit.Lit.{Lit}
 use Rattle.cyp_term.specs.declared.lit.Lit.TheVariants.{Eq, Le, Lt, Member, Ne, NotMember, NotSame, NotSub, Same, Sub}
 use Rattle.cyp_term.specs.declared.lit.SetTerm.{SetTerm}

@@ -54,7 +54,7 @@ map_where_twice f g h (x ∷ xs) e =
     let rest = map_where_twice f g h xs (λ y k. e y (inr k)) in
     λ i. first i ∷ rest i
 
-map_where : {A B : Type 0} (f g : A → B) (xs : List A) → ((x : A) → Among x xs → f x ≡ g x) → map f xs ≡ map g xs
+pub map_where : {A B : Type 0} (f g : A → B) (xs : List A) → ((x : A) → Among x xs → f x ≡ g x) → map f xs ≡ map g xs
 map_where f g [] h = refl
 map_where f g (x ∷ xs) h =
     let first = h x (inl refl) in

@@ -13,10 +13,14 @@ use Rattle.cyp_term.specs.declared.term.Var.{Var}
 abbrev pub known_vars : Node → List Var
 known_vars n = node_vars n ++ n.goal.exist
 
--- a node under new names has the normal form that it had, or none where it had none; what its program variables were called is renamed
+-- the same node; what its program variables were called is renamed
+abbrev pub rename_old : (Var → Var) → Renaming → Renaming
+rename_old r s = record { node = s.node; old = map r s.old }
+
+-- a node under new names has the normal form that it had, or none where it had none
 abbrev pub RenamingLaw : Type 0
 RenamingLaw = (r : Var → Var) (n : Node) → AreNewNames (known_vars n) r → IsTrue (is_sorted n)
-    → normal (rename_node r n) ≡ option_map (λ (s : Renaming). record { node = s.node; old = map r s.old }) (normal n)
+    → normal (rename_node r n) ≡ option_map (rename_old r) (normal n)
 
 -- where the program variables keep their names the normal form stays as it was
 abbrev pub LogicalRenamingLaw : Type 0
