@@ -1,19 +1,15 @@
 -- The numbers of variables: a renaming that keeps sorts and tells all variables apart.
-use Rattle.std.proofs.Common.{◌≡◌, ◌∙◌, [], ◌∷◌, List, Bool, true, false, cond, map, length, ℕ, suc, ◌+◌, ◌≤◌, ◌<◌, Decides, refl, ap, sym, inl, inr, subst, ⊎_elim, arith, le_refl}
-use Rattle.std.proofs.lemmas.Bool.{both_ways, cases_Bool, cond-true, false_from_ne_true}
+use Rattle.std.proofs.Common.{◌≡◌, ◌∙◌, [], ◌∷◌, List, Bool, true, false, cond, map, length, ℕ, suc, ◌+◌, ◌≤◌, ◌<◌, refl, ap, sym, inl, inr, subst, ⊎_elim, arith, le_refl}
+use Rattle.std.proofs.lemmas.Bool.{both_ways, cases_Bool, cond-true}
 use Rattle.cyp_goal.proofs.Live.{among_in, in_among}
 use Rattle.cyp_goal.proofs.Rename.{IsRenaming}
+use Rattle.cyp_goal.proofs.SameVars.{same_bool}
 use Rattle.cyp_goal.specs.Numbering.{new_name, rank_from, rank_in}
 use Rattle.cyp_term.proofs.Equality.{Decides-sort_eq, Decides-var_eq}
 use Rattle.cyp_term.proofs.Lists.{Among}
 use Rattle.cyp_term.specs.Terms.{sort_eq, var_eq, var_in}
 use Rattle.cyp_term.specs.declared.term.Sort.{Sort}
 use Rattle.cyp_term.specs.declared.term.Var.{Var}
-
--- two tests of facts that follow from each other
-same_test : {P Q : Type 0} (a b : Bool) → Decides a P → Decides b Q → (P → Q) → (Q → P) → a ≡ b
-same_test true b h k f g = sym (k.1 (f (h.0 refl)))
-same_test false b h k f g = sym (false_from_ne_true b (λ e. both_ways false refl (h.1 (g (k.0 e)))))
 
 rank_here : (k : ℕ) (u : Var) (us : List Var) (v : Var) → var_eq u v ≡ true → rank_from k (u ∷ us) v ≡ k
 rank_here k u us v e = ap (λ b. elim b [ true ↦ k | false ↦ rank_from (cond (sort_eq u.sort v.sort) (suc k) k) us v ]) e
@@ -119,9 +115,11 @@ name_apart_at vs s t a b e =
 pub IsRenaming-name_in : (vs : List Var) → IsRenaming (name_in vs)
 IsRenaming-name_in vs = record {
   apart = λ v w.
-      same_test (var_eq (name_in vs v) (name_in vs w)) (var_eq v w) (Decides-var_eq (name_in vs v) (name_in vs w)) (Decides-var_eq v w)
-      (λ e. name_apart_at vs v.sort w.sort v.number w.number (ap (λ (x : Var). x.sort) e) (ap (λ (x : Var). x.number) e))
-      (λ e. ap (name_in vs) e);
+      let new = Decides-var_eq (name_in vs v) (name_in vs w) in
+      let old = Decides-var_eq v w in
+      same_bool (var_eq (name_in vs v) (name_in vs w)) (var_eq v w)
+      (λ e. old.1 (name_apart_at vs v.sort w.sort v.number w.number (ap (λ (x : Var). x.sort) (new.0 e)) (ap (λ (x : Var). x.number) (new.0 e))))
+      (λ e. new.1 (ap (name_in vs) (old.0 e)));
   sort = λ v. refl;
 }
 

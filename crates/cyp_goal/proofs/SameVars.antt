@@ -70,7 +70,8 @@ pub same_among : (xs ys : List Var) → AddSame xs ys → (v : Var) → Among v 
 same_among xs ys h v k =
     without_repeats_out var_eq Decides-var_eq v ys (subst (Among v) (h []) (without_repeats_in var_eq Decides-var_eq v xs k))
 
-same_bool : (a b : Bool) → (a ≡ true → b ≡ true) → (b ≡ true → a ≡ true) → a ≡ b
+-- two tests that follow from each other
+pub same_bool : (a b : Bool) → (a ≡ true → b ≡ true) → (b ≡ true → a ≡ true) → a ≡ b
 same_bool true b f g = sym (f refl)
 same_bool false true f g = g refl
 same_bool false false f g = refl
