@@ -1,8 +1,9 @@
 -- New names for some variables go on to new names for all.
 use Rattle.std.proofs.Common.{◌≡◌, [], ◌∷◌, List, Bool, true, false, cond, map, ℕ, suc, ◌+◌, ◌<◌, refl, ap, sym, inl, inr, arith}
-use Rattle.std.proofs.lemmas.Bool.{both_ways, cond-true, false_from_ne_true}
+use Rattle.std.proofs.lemmas.Bool.{cond-true}
 use Rattle.cyp_goal.proofs.Live.{among_in, in_among}
 use Rattle.cyp_goal.proofs.Rename.{IsRenaming}
+use Rattle.cyp_goal.proofs.SameVars.{same_bool}
 use Rattle.cyp_goal.specs.Renamed.{AreNewNames}
 use Rattle.cyp_term.proofs.Equality.{Decides-var_eq}
 use Rattle.cyp_term.proofs.Lists.{Among, Among-map}
@@ -56,11 +57,11 @@ module _ (r : Var → Var) (vs : List Var) (is : AreNewNames vs r) where
   apart_at v w false true e f h = absurd (crossed w v f (sym h))
   apart_at v w false false e f h = outside_apart v w h
 
-  tests_agree : (v w : Var) (b : Bool) → var_eq v w ≡ b → var_eq (extended v) (extended w) ≡ b
-  tests_agree v w true e = (Decides-var_eq (extended v) (extended w)).1 (ap extended ((Decides-var_eq v w).0 e))
-  tests_agree v w false e =
-      false_from_ne_true (var_eq (extended v) (extended w)) (λ h.
-      both_ways (var_eq v w) e ((Decides-var_eq v w).1 (apart_at v w (var_in v vs) (var_in w vs) refl refl ((Decides-var_eq (extended v) (extended w)).0 h))))
+  tests_agree : (v w : Var) → var_eq (extended v) (extended w) ≡ var_eq v w
+  tests_agree v w =
+      let new = Decides-var_eq (extended v) (extended w) in
+      let old = Decides-var_eq v w in
+      same_bool (var_eq (extended v) (extended w)) (var_eq v w) (λ e. old.1 (apart_at v w (var_in v vs) (var_in w vs) refl refl (new.0 e))) (λ e. new.1 (ap extended (old.0 e)))
 
   pub extended_renames : IsRenaming extended
-  extended_renames = record { apart = λ v w. tests_agree v w (var_eq v w) refl; sort = λ v. sort_at v (var_in v vs) refl }
+  extended_renames = record { apart = tests_agree; sort = λ v. sort_at v (var_in v vs) refl }
