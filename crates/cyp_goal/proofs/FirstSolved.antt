@@ -9,7 +9,7 @@ use Rattle.cyp_term.proofs.Lists.{Among}
 use Rattle.cyp_term.specs.declared.lit.Lit.{Lit}
 use Rattle.cyp_term.specs.declared.subst.Subst.{Subst}
 
-abbrev first_at : Option Subst → Lit → List Lit → Option (Subst × List Lit) → Option (Subst × List Lit)
+abbrev pub first_at : Option Subst → Lit → List Lit → Option (Subst × List Lit) → Option (Subst × List Lit)
 first_at o l ls later = elim o [
   | Some by ↦ Some (by, ls)
   | None ↦ option_map (λ (p : Subst × List Lit). (p.0, l ∷ p.1)) later

@@ -33,7 +33,7 @@ use Rattle.cyp_term.specs.declared.term.Var.{Var}
 
 -- ---- filters
 
-filter_all : {A : Type 0} (test p : A → Bool) (xs : List A) → list_all test xs ≡ true → list_all test (filter p xs) ≡ true
+pub filter_all : {A : Type 0} (test p : A → Bool) (xs : List A) → list_all test xs ≡ true → list_all test (filter p xs) ≡ true
 filter_all test p xs h = each_from test (filter p xs) (λ x k. each_at test x xs h (filter_out p x xs k).0)
 
 filter_twice : {A : Type 0} (p : A → Bool) (xs : List A) → filter p (filter p xs) ≡ filter p xs
@@ -55,7 +55,7 @@ module _ (n : Node) where
   abbrev g : Goal
   g = n.goal
 
-  abbrev live : List Var
+  abbrev pub live : List Var
   live = live_vars n
 
   abbrev start : List Var
@@ -79,7 +79,7 @@ module _ (n : Node) where
   abbrev dropped : List Var
   dropped = filter (λ v. not (var_in v program)) g.program ++ filter (λ v. not (var_in v exist)) g.exist
 
-  abbrev alive : List Var
+  abbrev pub alive : List Var
   alive = filter (λ v. not (var_in v dropped)) (live ++ program)
 
   abbrev links : List Link
@@ -304,7 +304,7 @@ module _ (p q : Var → Bool) where
       (filter_all (λ (b : IntBind). term_fits p b.to) (λ (b : IntBind). list_all (λ v. var_in v vs) (term_vars b.to)) k.map.ints images.0)
       (filter_all (λ (b : SetBind). set_fits p q b.to) (λ (b : SetBind). list_all (λ v. var_in v vs) (set_vars b.to)) k.map.sets images.1))
 
-  links_kept : (vs : List Var) (ks : List Link) → list_all (link_fits p q) ks ≡ true → list_all (link_fits p q) (map (λ (k : Link). record k { map = only_vars vs k.map }) ks) ≡ true
+  pub links_kept : (vs : List Var) (ks : List Link) → list_all (link_fits p q) ks ≡ true → list_all (link_fits p q) (map (λ (k : Link). record k { map = only_vars vs k.map }) ks) ≡ true
   links_kept vs [] h = refl
   links_kept vs (k ∷ ks) h =
       let both = and_parts (link_fits p q k) (list_all (link_fits p q) ks) h in

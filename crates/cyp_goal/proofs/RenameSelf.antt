@@ -20,7 +20,7 @@ use Rattle.cyp_term.specs.declared.term.Var.{Var}
 abbrev pub self : Var → Var
 self v = v
 
-map_self : {A : Type 0} (f : A → A) → ((x : A) → f x ≡ x) → (xs : List A) → map f xs ≡ xs
+pub map_self : {A : Type 0} (f : A → A) → ((x : A) → f x ≡ x) → (xs : List A) → map f xs ≡ xs
 map_self f e [] = refl
 map_self f e (x ∷ xs) = λ i. e x i ∷ map_self f e xs i
 

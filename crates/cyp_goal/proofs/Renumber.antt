@@ -35,13 +35,13 @@ use Rattle.cyp_term.specs.declared.term.Var.{Var}
 
 -- ---- images of a map that binds each variable of a list
 
-int_image_at : (f : Var → Term) (us : List Var) (v : Var) → Among v us → int_image (map (λ w. record { var = w; to = f w }) us) v ≡ Some (f v)
+pub int_image_at : (f : Var → Term) (us : List Var) (v : Var) → Among v us → int_image (map (λ w. record { var = w; to = f w }) us) v ≡ Some (f v)
 int_image_at f [] v k = absurd k
 int_image_at f (u ∷ us) v k =
     cond_both (var_eq u v) (Some (f u)) (int_image (map (λ w. record { var = w; to = f w }) us) v) (λ o. o ≡ Some (f v))
     (λ e. ap (λ w. Some (f w)) ((Decides-var_eq u v).0 e)) (λ e. int_image_at f us v (among_rest u us v e k))
 
-set_image_at : (f : Var → SetTerm) (us : List Var) (v : Var) → Among v us → set_image (map (λ w. record { var = w; to = f w }) us) v ≡ Some (f v)
+pub set_image_at : (f : Var → SetTerm) (us : List Var) (v : Var) → Among v us → set_image (map (λ w. record { var = w; to = f w }) us) v ≡ Some (f v)
 set_image_at f [] v k = absurd k
 set_image_at f (u ∷ us) v k =
     cond_both (var_eq u v) (Some (f u)) (set_image (map (λ w. record { var = w; to = f w }) us) v) (λ o. o ≡ Some (f v))
@@ -54,7 +54,7 @@ map_where_twice f g h (x ∷ xs) e =
     let rest = map_where_twice f g h xs (λ y k. e y (inr k)) in
     λ i. first i ∷ rest i
 
-map_where : {A B : Type 0} (f g : A → B) (xs : List A) → ((x : A) → Among x xs → f x ≡ g x) → map f xs ≡ map g xs
+pub map_where : {A B : Type 0} (f g : A → B) (xs : List A) → ((x : A) → Among x xs → f x ≡ g x) → map f xs ≡ map g xs
 map_where f g [] h = refl
 map_where f g (x ∷ xs) h =
     let first = h x (inl refl) in

@@ -21,7 +21,7 @@ use Rattle.cyp_term.specs.declared.subst.Subst.{Subst}
 use Rattle.cyp_term.specs.declared.term.Term.{Term}
 use Rattle.cyp_term.specs.declared.term.Var.{Var}
 
-cond_other : {A : Type 0} (b : Bool) (x y : A) → cond b None (Some x) ≡ Some y → x ≡ y
+pub cond_other : {A : Type 0} (b : Bool) (x y : A) → cond b None (Some x) ≡ Some y → x ≡ y
 cond_other true x y e = absurd (none-some y e)
 cond_other false x y e = same_Some x y e
 

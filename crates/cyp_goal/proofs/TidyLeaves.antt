@@ -67,7 +67,7 @@ address_once ts l (inl h) = ap lit_once h.2
 address_once ts l (inr h) = ap lit_once h.1
 
 module _ (p q : Var → Bool) where
-  address_lit_fits : (ts : List Term) (l : Lit) → list_all (term_fits p) ts ≡ true → AddressLit ts l → lit_fits p q l ≡ true
+  pub address_lit_fits : (ts : List Term) (l : Lit) → list_all (term_fits p) ts ≡ true → AddressLit ts l → lit_fits p q l ≡ true
   address_lit_fits ts l f (inl h) =
       let t = flat_out term_vars h.1 ts h.3 in
       ap (lit_fits p q) h.2 ∙ ap (λ b. list_all p (base_vars b)) h.4
@@ -81,7 +81,7 @@ module _ (p q : Var → Bool) where
   address_at (Cell c) t f (inl e) = ap (term_fits p) e ∙ (and_parts (term_fits p c.at) (term_fits p c.content) f).0
   address_at (Cell c) t f (inr k) = absurd k
 
-  addresses_fit : (cs : List Chunk) → list_all (chunk_fits p q) cs ≡ true → list_all (term_fits p) (flat_map address cs) ≡ true
+  pub addresses_fit : (cs : List Chunk) → list_all (chunk_fits p q) cs ≡ true → list_all (term_fits p) (flat_map address cs) ≡ true
   addresses_fit cs f = each_from (term_fits p) (flat_map address cs) (λ t k. let r = flat_out address t cs k in address_at r.0 t (each_at (chunk_fits p q) r.0 cs f r.1) r.2)
 
   -- ---- what tidying leaves
@@ -97,13 +97,13 @@ module _ (p q : Var → Bool) where
   tidy_among ls l k = filter_out (λ m. not (is_plainly_true m)) l ls (without_repeats_out lit_eq Decides-lit_eq l (filter (λ m. not (is_plainly_true m)) ls) k)
 
   -- what holds of each literal and of those that addresses are positive holds of each that is left
-  pre_each : (test : Lit → Bool) (ls : List Lit) (ts : List Term) → ((l : Lit) → Among l ls → not (is_plainly_true l) ≡ true → test l ≡ true) → ((l : Lit) → AddressLit ts l → test l ≡ true)
+  pub pre_each : (test : Lit → Bool) (ls : List Lit) (ts : List Term) → ((l : Lit) → Among l ls → not (is_plainly_true l) ≡ true → test l ≡ true) → ((l : Lit) → AddressLit ts l → test l ≡ true)
       → list_all test (with_all_new lit_eq (tidy_lits ls) (address_lits ts)) ≡ true
   pre_each test ls ts old new =
       each_from test (with_all_new lit_eq (tidy_lits ls) (address_lits ts)) (λ l k.
       ⊎_elim (λ m. let r = tidy_among ls l m in old l r.0 r.1) (λ m. new l (address_lit ts l m)) (added_out lit_eq Decides-lit_eq l (tidy_lits ls) (address_lits ts) k))
 
-  post_each : (test : Lit → Bool) (ls : List Lit) → ((l : Lit) → Among l ls → not (is_plainly_true l) ≡ true → test l ≡ true) → list_all test (tidy_lits ls) ≡ true
+  pub post_each : (test : Lit → Bool) (ls : List Lit) → ((l : Lit) → Among l ls → not (is_plainly_true l) ≡ true → test l ≡ true) → list_all test (tidy_lits ls) ≡ true
   post_each test ls old = each_from test (tidy_lits ls) (λ l k. let r = tidy_among ls l k in old l r.0 r.1)
 
   pub tidy_leaves : (m : Node) → IsSolved p q m → IsTidy (tidy_node m)

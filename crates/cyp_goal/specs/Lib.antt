@@ -6,3 +6,5 @@ pub mod Normal
 pub mod Facts
 pub mod Raw
 pub mod Laws
+pub mod Renamed
+pub mod RenamingLaw
