@@ -1,0 +1,5 @@
+pub mod Claims
+pub mod Crews
+pub mod Journals
+pub mod Laws
+pub mod Machine
