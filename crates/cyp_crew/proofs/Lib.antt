@@ -1,0 +1,3 @@
+pub mod DecidedReport
+pub mod Paths
+pub mod Steps
