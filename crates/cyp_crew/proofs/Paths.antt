@@ -7,10 +7,8 @@ use Rattle.cyp_crew.specs.Crews.{Task, Crew, fresh_crew}
 use Rattle.cyp_crew.specs.Machine.{after}
 use Rattle.cyp_crew.specs.Journals.{counted, commits_in, after_all, is_journal, LeadsTo, Passes}
 use Rattle.cyp_crew.specs.Laws.{OnePath}
+use Rattle.cyp_crew.proofs.Somes.{some_inj}
 use Rattle.cyp_crew.proofs.Steps.{commit_law, stay_law}
-
-some_inj : {A : Type 0} (a b : A) → Some a ≡ Some b → a ≡ b
-some_inj a b e = cc
 
 module _ {R N : Type 0} (t : Task R N) where
   abbrev PathFrom : Crew N → List Event → Type 0

@@ -11,9 +11,7 @@ use Rattle.cyp_crew.specs.Crews.{Task, Outstanding, Crew}
 use Rattle.cyp_crew.specs.Claims.{claim_of, claim_at, with_cancelled, crew_tree, free_leaf, is_live, next_published}
 use Rattle.cyp_crew.specs.Machine.{where_so, is_open, may_claim, with_claim, with_publish, with_abandon, with_cancel, next_fits, may_commit, after}
 use Rattle.cyp_crew.specs.Laws.{Commits}
-
-some_inj : {A : Type 0} (a b : A) → Some a ≡ Some b → a ≡ b
-some_inj a b e = cc
+use Rattle.cyp_crew.proofs.Somes.{some_inj}
 
 -- a step under a test that led somewhere: the test held
 pub so_tested : {N : Type 0} (b : Bool) (o : Option (Crew N)) (d : Crew N) → where_so b o ≡ Some d → b ≡ true

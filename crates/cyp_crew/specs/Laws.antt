@@ -1,5 +1,5 @@
 -- Laws of crews: whatever the order of their events, they give the answer of one thread.
-use Rattle.std.specs.Prelude.{◌≡◌, IsTrue, ℕ, suc, List, ◌++◌, Some}
+use Rattle.std.specs.Prelude.{◌≡◌, IsTrue, ℕ, suc, List, [], ◌++◌, Some}
 use Rattle.std.specs.Option.{option_and_then}
 use Rattle.cyp_tree.specs.declared.status.Status.TheVariants.{Open}
 use Rattle.cyp_tree.specs.Statuses.{status}
@@ -10,6 +10,7 @@ use Rattle.cyp_crew.specs.declared.event.Event.TheVariants.{Commit}
 use Rattle.cyp_crew.specs.Crews.{Task, Crew, fresh_crew}
 use Rattle.cyp_crew.specs.Claims.{crew_tree}
 use Rattle.cyp_crew.specs.Machine.{after}
+use Rattle.cyp_crew.specs.Board.{StandsFor, fresh_board}
 use Rattle.cyp_crew.specs.Journals.{commits_in, after_all, is_journal, LeadsTo, Passes, DecidedBy, crew_report}
 
 -- a journal goes through one list of states
@@ -61,3 +62,7 @@ CrewIsReport R N = (t : Task R N) (vs : List Event) (c : Crew N) → DecidedBy t
 abbrev pub TwoJournalsLaw : (R N : Type 0) → Type 0
 TwoJournalsLaw R N =
     (t : Task R N) (vs ws : List Event) (c d : Crew N) → DecidedBy t vs c → DecidedBy t ws d → (commits_in vs ≡ commits_in ws) × (crew_report t c ≡ crew_report t d)
+
+-- a fresh board stands for its search and the empty journal
+abbrev pub FreshBoardLaw : (R N : Type 0) → Type 0
+FreshBoardLaw R N = (t : Task R N) → StandsFor t [] (fresh_board t)

@@ -1,3 +1,4 @@
+pub mod Board
 pub mod Claims
 pub mod Crews
 pub mod Journals

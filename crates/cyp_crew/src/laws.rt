@@ -1,4 +1,4 @@
-ghost use Rattle.cyp_crew.specs.Laws.{OnePathLaw, PrefixLaw, CommitLaw, StayLaw, StageLaw, CrewLaw, CrewIsReport, TwoJournalsLaw};
+ghost use Rattle.cyp_crew.specs.Laws.{OnePathLaw, PrefixLaw, CommitLaw, StayLaw, StageLaw, CrewLaw, CrewIsReport, TwoJournalsLaw, FreshBoardLaw};
 
 /// Law: a journal goes through exactly one list of states.
 pub fn journal_goes_through_one_list_of_states<R, N>()
@@ -41,4 +41,9 @@ pub fn decided_journal_ends_at_the_least_stage<R, N>()
 /// same report.
 pub fn decided_journals_agree<R, N>()
     ensures { TwoJournalsLaw R N }
+{}
+
+/// Law: a fresh board stands for its search and the empty journal.
+pub fn fresh_board_stands<R, N>()
+    ensures { FreshBoardLaw R N }
 {}
