@@ -1,0 +1,4 @@
+pub mod Changed
+pub mod KindsKeep
+pub mod Numbers
+pub mod Places
