@@ -5,3 +5,4 @@ pub mod HasDerivation
 pub mod HasLive
 pub mod Leaves
 pub mod NewNumbers
+pub mod Rising

@@ -8,7 +8,7 @@ use Rattle.cyp_tree.specs.Live.{Waiting, next_leaf}
 use Rattle.cyp_tree.specs.Derivations.{chosen_derivation}
 use Rattle.cyp_tree.specs.Sizes.{size, alts_size}
 use Rattle.cyp_tree.specs.Growing.{new_alts, graft}
-use Rattle.cyp_tree.specs.Numbers.{leaves, IsNumbered}
+use Rattle.cyp_tree.specs.Numbers.{leaves, IsNumbered, run_from, alts_numbers, IsRising}
 
 -- a tree with an open root has a next leaf
 abbrev pub OpenHasNext : (R N : Type 0) → Type 0
@@ -29,3 +29,11 @@ GraftedIsNumbered R N = (t : Tree R N) (k : ℕ) (as' : List (AltOf R N)) → Is
 -- alternatives at a leaf add their nodes to the tree
 abbrev pub GraftedSize : (R N : Type 0) → Type 0
 GraftedSize R N = (t : Tree R N) (k : ℕ) (new : Alts R N) → leaves k t ≡ 1 → size (graft k new t) ≡ size t + alts_size new
+
+-- such new leaves keep the numbers of a numbered tree rising
+abbrev pub GraftedIsRising : (R N : Type 0) → Type 0
+GraftedIsRising R N = (t : Tree R N) (k : ℕ) (as' : List (AltOf R N)) → IsNumbered t → IsRising t → IsRising (graft k (new_alts (size t) as') t)
+
+-- the trees of new alternatives have the numbers from the given one on, in order
+abbrev pub NewAreARun : (R N : Type 0) → Type 0
+NewAreARun R N = (k : ℕ) (as' : List (AltOf R N)) → alts_numbers (new_alts k as') ≡ run_from k (alts_size (new_alts k as'))

@@ -1,4 +1,4 @@
-ghost use Rattle.cyp_tree.specs.Laws.{OpenHasNext, SolvedHasDerivation, NextIsALeaf, GraftedIsNumbered, GraftedSize};
+ghost use Rattle.cyp_tree.specs.Laws.{OpenHasNext, SolvedHasDerivation, NextIsALeaf, GraftedIsNumbered, GraftedSize, GraftedIsRising, NewAreARun};
 
 /// Law: a tree with an open root has a live leaf, and so a next one.
 pub fn open_tree_has_a_next_leaf<R, N>()
@@ -24,4 +24,15 @@ pub fn grafted_tree_is_numbered<R, N>()
 /// Law: alternatives that take the place of a leaf add their nodes to the size.
 pub fn grafted_size_adds_up<R, N>()
     ensures { GraftedSize R N }
+{}
+
+/// Law: leaves that are numbered from the size of a numbered tree on keep its numbers rising, from
+/// each node to the trees of its alternatives and from each of these to the next.
+pub fn grafted_tree_is_rising<R, N>()
+    ensures { GraftedIsRising R N }
+{}
+
+/// Law: the premises of new alternatives get one number after the other, in order.
+pub fn new_numbers_are_a_run<R, N>()
+    ensures { NewAreARun R N }
 {}
