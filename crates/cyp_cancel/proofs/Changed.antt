@@ -2,14 +2,13 @@
 use Rattle.std.proofs.Common.{◌≡◌, refl, sym, ◌∙◌, ap, subst, ℕ, suc, ◌<◌, ◌⊎◌, inl, inr, List, length, Option, Some, None, slice_get, slice_set}
 use Rattle.std.specs.List.{Contains}
 use Rattle.std.proofs.lemmas.List.{length-set}
+use Rattle.std.proofs.lemmas.Option.{same_Some}
 use Rattle.cyp_cancel.specs.Words.{Word, Idle, Run, Stop, serial_of}
 use Rattle.cyp_cancel.specs.Views.{Stopped, WorkerView, View, Maker, Worker, Table}
 use Rattle.cyp_cancel.specs.Kinds.{HasWord, HasView, Changes}
 use Rattle.cyp_cancel.specs.Rule.{OneMaker, HasNoView, KeepsRule}
-use Rattle.cyp_cancel.proofs.Places.{some_inj, same_or_not, at_set, set_here, set_else}
-
-pub worker_inj : (u v : WorkerView) → Worker u ≡ Worker v → u ≡ v
-worker_inj u v e = cc
+use Rattle.cyp_cancel.proofs.Same.{same_Worker}
+use Rattle.cyp_cancel.proofs.Places.{same_or_not, at_set, set_here, set_else}
 
 module _ (before after : Table) (worker : ℕ) (old new : Word) (view next : WorkerView) (c : Changes before after worker old new view next) where
   -- what the word and the view owe each other
@@ -29,7 +28,7 @@ module _ (before after : Table) (worker : ℕ) (old new : Word) (view next : Wor
   -- a worker's view afterwards is the next one at its seat, or one from before
   pub view_cases : (i : ℕ) (v : WorkerView) → HasView after i (Worker v) → ((i ≡ c.seat) × (next ≡ v)) ⊎ ((i ≡ c.seat → ⊥) × HasView before i (Worker v))
   view_cases i v h = elim (at_set before.views c.seat i (Worker next) (Worker v) (subst (λ (l : List View). slice_get l i ≡ Some (Worker v)) c.views h)) [
-    | inl p ↦ inl (p.0, worker_inj next v p.1)
+    | inl p ↦ inl (p.0, same_Worker next v p.1)
     | inr p ↦ inr p
   ]
 
@@ -71,7 +70,7 @@ module _ (before after : Table) (worker : ℕ) (old new : Word) (view next : Wor
       pub stopped : (x : Stopped) → Contains v.stopped x → Contains now.stopped x
 
     at_seat : (i : ℕ) (v : WorkerView) → i ≡ c.seat → HasView before i (Worker v) → view ≡ v
-    at_seat i v e h = worker_inj view v (some_inj (Worker view) (Worker v) (sym c.held ∙ ap (slice_get before.views) (sym e) ∙ h))
+    at_seat i v e h = same_Worker view v (same_Some (Worker view) (Worker v) (sym c.held ∙ ap (slice_get before.views) (sym e) ∙ h))
 
     pub stays : (i : ℕ) (v : WorkerView) → HasView before i (Worker v) → Stays i v
     stays i v h = elim (same_or_not i c.seat) [

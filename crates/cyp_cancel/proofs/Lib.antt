@@ -1,4 +1,9 @@
 pub mod Changed
+pub mod FoundWord
 pub mod KindsKeep
+pub mod NewWorker
 pub mod Numbers
+pub mod OwnWord
 pub mod Places
+pub mod Same
+pub mod Start

@@ -1,8 +1,6 @@
 -- Lists of which one place changes, or that become longer by one.
 use Rattle.std.proofs.Common.{◌≡◌, refl, sym, ◌∙◌, ap, ℕ, zero, suc, ◌<◌, ◌≤◌, ◌⊎◌, inl, inr, List, [], ◌∷◌, ◌++◌, length, Option, Some, None, slice_get, slice_set, arith}
-
-pub some_inj : {A : Type 0} (a b : A) → Some a ≡ Some b → a ≡ b
-some_inj a b e = cc
+use Rattle.std.proofs.lemmas.Option.{same_Some}
 
 -- two numbers are the same or not
 pub same_or_not : (i j : ℕ) → (i ≡ j) ⊎ (i ≡ j → ⊥)
@@ -15,7 +13,7 @@ module _ {A : Type 0} where
   -- what stands at a place after a change
   pub at_set : (l : List A) (i j : ℕ) (a b : A) → slice_get (slice_set l i a) j ≡ Some b → ((j ≡ i) × (a ≡ b)) ⊎ ((j ≡ i → ⊥) × (slice_get l j ≡ Some b))
   at_set [] i j a b e = cc
-  at_set (x ∷ xs) zero zero a b e = inl (refl, some_inj a b e)
+  at_set (x ∷ xs) zero zero a b e = inl (refl, same_Some a b e)
   at_set (x ∷ xs) zero (suc j) a b e = inr (λ h. omega arith, e)
   at_set (x ∷ xs) (suc i) zero a b e = inr (λ h. omega arith, e)
   at_set (x ∷ xs) (suc i) (suc j) a b e = elim (at_set xs i j a b e) [ inl p ↦ inl (ap suc p.0, p.1) | inr p ↦ inr (λ h. p.0 (omega arith), p.1) ]
@@ -36,7 +34,7 @@ module _ {A : Type 0} where
 
   -- what stands at a place of a list with one more behind it
   pub at_push : (l : List A) (a b : A) (j : ℕ) → slice_get (l ++ a ∷ []) j ≡ Some b → (slice_get l j ≡ Some b) ⊎ ((j ≡ length l) × (a ≡ b))
-  at_push [] a b zero e = inr (refl, some_inj a b e)
+  at_push [] a b zero e = inr (refl, same_Some a b e)
   at_push [] a b (suc j) e = cc
   at_push (x ∷ xs) a b zero e = inl e
   at_push (x ∷ xs) a b (suc j) e = elim (at_push xs a b j e) [ inl h ↦ inl h | inr p ↦ inr (omega (arith, p.0), p.1) ]

@@ -1,13 +1,13 @@
 -- Journals event by event: the states they go through, what they begin with, and their commits.
 use Rattle.std.proofs.Common.{◌≡◌, refl, sym, ◌∙◌, ap, subst, IsTrue, ℕ, suc, ◌+◌, List, [], ◌∷◌, ◌++◌, Option, Some, None, is_some, arith}
 use Rattle.std.specs.Option.{option_and_then}
+use Rattle.std.proofs.lemmas.Option.{same_Some}
 use Rattle.cyp_crew.specs.declared.event.Event.{Event}
 use Rattle.cyp_crew.specs.declared.event.Event.TheVariants.{Claim, Publish, Abandon, Cancel, Commit}
 use Rattle.cyp_crew.specs.Crews.{Task, Crew, fresh_crew}
 use Rattle.cyp_crew.specs.Machine.{after}
 use Rattle.cyp_crew.specs.Journals.{counted, commits_in, after_all, is_journal, LeadsTo, Passes}
 use Rattle.cyp_crew.specs.Laws.{OnePath}
-use Rattle.cyp_crew.proofs.Somes.{some_inj}
 use Rattle.cyp_crew.proofs.Steps.{commit_law, stay_law}
 
 module _ {R N : Type 0} (t : Task R N) where
@@ -26,7 +26,7 @@ module _ {R N : Type 0} (t : Task R N) where
       only : (rest : PathFrom d vs) (es : List (Crew N)) → Passes t c (v ∷ vs) es → es ≡ d ∷ rest.0
       only rest [] p = absurd p
       only rest (x ∷ es) p =
-          let one : x ≡ d = some_inj x d (sym p.0 ∙ e) in
+          let one : x ≡ d = same_Some x d (sym p.0 ∙ e) in
           let more : es ≡ rest.0 = rest.2 es (subst (λ (y : Crew N). Passes t y vs es) one p.1) in
           cc
 
@@ -69,7 +69,7 @@ module _ {R N : Type 0} (t : Task R N) where
   counted_then v vs c d (Some x) q e later = omega (arith, later x e, moved c x v (commits_in vs) q)
 
   counted_all : (vs : List Event) (c d : Crew N) → after_all t c vs ≡ Some d → d.commits ≡ c.commits + commits_in vs
-  counted_all [] c d e = let same : c ≡ d = some_inj c d e in omega (arith, ap (λ (x : Crew N). x.commits) same)
+  counted_all [] c d e = let same : c ≡ d = same_Some c d e in omega (arith, ap (λ (x : Crew N). x.commits) same)
   counted_all (v ∷ vs) c d e = counted_then v vs c d (after t c v) refl e (λ x. counted_all vs x d)
 
   pub stage_law : (vs : List Event) (c : Crew N) → LeadsTo t vs c → c.commits ≡ commits_in vs

@@ -1,6 +1,7 @@
 -- What one event does to the stage of a crew.
 use Rattle.std.proofs.Common.{◌≡◌, refl, sym, ap, ℕ, suc, ◌+◌, Bool, true, false, not, ◌&&◌, List, Option, Some, None, nat_lt}
 use Rattle.std.proofs.lemmas.Bool.{and_parts}
+use Rattle.std.proofs.lemmas.Option.{same_Some}
 use Rattle.cyp_tree.specs.declared.status.Status.{Status}
 use Rattle.cyp_tree.specs.declared.status.Status.TheVariants.{Open, Solved, Failed}
 use Rattle.cyp_tree.specs.Statuses.{status}
@@ -11,7 +12,6 @@ use Rattle.cyp_crew.specs.Crews.{Task, Outstanding, Crew}
 use Rattle.cyp_crew.specs.Claims.{claim_of, claim_at, with_cancelled, crew_tree, free_leaf, is_live, next_published}
 use Rattle.cyp_crew.specs.Machine.{where_so, is_open, may_claim, with_claim, with_publish, with_abandon, with_cancel, next_fits, may_commit, after}
 use Rattle.cyp_crew.specs.Laws.{Commits}
-use Rattle.cyp_crew.proofs.Somes.{some_inj}
 
 -- a step under a test that led somewhere: the test held
 pub so_tested : {N : Type 0} (b : Bool) (o : Option (Crew N)) (d : Crew N) → where_so b o ≡ Some d → b ≡ true
@@ -49,7 +49,7 @@ module _ {R N : Type 0} (t : Task R N) where
   may_commit_of c d e = may_parts c (so_tested (may_commit t c) (Some (record c { commits = suc c.commits })) d e)
 
   committed : (c d : Crew N) → after t c Commit ≡ Some d → record c { commits = suc c.commits } ≡ d
-  committed c d e = some_inj (record c { commits = suc c.commits }) d (so_led (may_commit t c) (Some (record c { commits = suc c.commits })) d e)
+  committed c d e = same_Some (record c { commits = suc c.commits }) d (so_led (may_commit t c) (Some (record c { commits = suc c.commits })) d e)
 
   pub commit_law : (c d : Crew N) → after t c Commit ≡ Some d → Commits t c d
   commit_law c d e =
@@ -70,21 +70,21 @@ module _ {R N : Type 0} (t : Task R N) where
 
   stay_claim : (c : Crew N) (w s : ℕ) (l : Option (Waiting N)) → SameStage c (with_claim c w s l)
   stay_claim c w s None d e = cc
-  stay_claim c w s (Some l) d e = ap (λ (x : Crew N). x.commits) (sym (some_inj _ d e))
+  stay_claim c w s (Some l) d e = ap (λ (x : Crew N). x.commits) (sym (same_Some _ d e))
 
   stay_publish : (c : Crew N) (o : Option (Outstanding N)) → SameStage c (with_publish c o)
   stay_publish c None d e = cc
-  stay_publish c (Some o) d e = ap (λ (x : Crew N). x.commits) (sym (some_inj _ d e))
+  stay_publish c (Some o) d e = ap (λ (x : Crew N). x.commits) (sym (same_Some _ d e))
 
   stay_abandon : (c : Crew N) (o : Option (Outstanding N)) → SameStage c (with_abandon c o)
   stay_abandon c None d e = cc
-  stay_abandon c (Some o) d e = ap (λ (x : Crew N). x.commits) (sym (some_inj _ d e))
+  stay_abandon c (Some o) d e = ap (λ (x : Crew N). x.commits) (sym (same_Some _ d e))
 
   stay_cancel : (c : Crew N) (o : Option (Outstanding N)) → SameStage c (with_cancel t c o)
   stay_cancel c None d e = cc
   stay_cancel c (Some o) d e =
       ap (λ (x : Crew N). x.commits)
-      (sym (some_inj (record c { outstanding = with_cancelled o.serial c.outstanding }) d
+      (sym (same_Some (record c { outstanding = with_cancelled o.serial c.outstanding }) d
       (so_led (not o.cancelled && not (is_live t c o.leaf)) (Some (record c { outstanding = with_cancelled o.serial c.outstanding })) d e)))
 
   pub stay_law : (c d : Crew N) (v : Event) → (v ≡ Commit → ⊥) → after t c v ≡ Some d → d.commits ≡ c.commits

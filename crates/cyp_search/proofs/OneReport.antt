@@ -1,12 +1,10 @@
 -- A search has one report: two least stages that end it are the same stage.
 use Rattle.std.proofs.Common.{◌≡◌, sym, ◌∙◌, ap, ℕ, ◌<◌, ◌⊎◌, inl, inr, Option, Some, None, arith}
 use Rattle.std.proofs.lemmas.Bool.{cases_lt}
+use Rattle.std.proofs.lemmas.Option.{same_Some}
 use Rattle.cyp_tree.specs.Trees.{Moving}
 use Rattle.cyp_search.specs.Stages.{stage}
 use Rattle.cyp_search.specs.Reports.{PlainVerdict, PlainReport, ending, report_of, IsReport}
-
-some_inj : {A : Type 0} (a b : A) → Some a ≡ Some b → a ≡ b
-some_inj a b e = cc
 
 module _ {R N : Type 0} (space : Moving R N) (budget limit : ℕ) (root : N) where
   abbrev end_at : ℕ → Option (PlainVerdict R N)
@@ -30,4 +28,4 @@ module _ {R N : Type 0} (space : Moving R N) (budget limit : ℕ) (root : N) whe
       the_stage = one_stage k m v w e below f under
 
       the_verdict : v ≡ w
-      the_verdict = some_inj v w (sym e ∙ ap end_at the_stage ∙ f)
+      the_verdict = same_Some v w (sym e ∙ ap end_at the_stage ∙ f)
