@@ -1,9 +1,9 @@
 -- A change of one worker's word and one worker's view keeps the rule, where the two fit each other.
-use Rattle.std.proofs.Common.{◌≡◌, refl, sym, ◌∙◌, ap, subst, ℕ, suc, ◌<◌, ◌⊎◌, inl, inr, List, length, Option, Some, None, slice_get, slice_set}
+use Rattle.std.proofs.Common.{◌≡◌, refl, sym, ◌∙◌, ap, subst, ℕ, ◌<◌, ◌⊎◌, inl, inr, List, length, Some, slice_get}
 use Rattle.std.specs.List.{Contains}
 use Rattle.std.proofs.lemmas.List.{length-set}
 use Rattle.std.proofs.lemmas.Option.{same_Some}
-use Rattle.cyp_cancel.specs.Words.{Word, Idle, Run, Stop, serial_of}
+use Rattle.cyp_cancel.specs.Words.{Word, Idle, Stop, serial_of}
 use Rattle.cyp_cancel.specs.Views.{Stopped, WorkerView, View, Maker, Worker, Table}
 use Rattle.cyp_cancel.specs.Kinds.{HasWord, HasView, Changes}
 use Rattle.cyp_cancel.specs.Rule.{OneMaker, HasNoView, KeepsRule}
@@ -111,8 +111,8 @@ module _ (before after : Table) (worker : ℕ) (old new : Word) (view next : Wor
       | inl p ↦ elim owes.serial [
         | inl mine ↦ absurd (other (sym e ∙ sym (ap (λ (u : WorkerView). u.number) p.1) ∙ owes.number ∙ sym mine))
         | inr same ↦
-          sym (ap (λ (u : WorkerView). u.serial) p.1) ∙ same
-          ∙ rule.own_serial w c.seat x view h busy c.held (sym owes.number ∙ ap (λ (u : WorkerView). u.number) p.1 ∙ e)
+            sym (ap (λ (u : WorkerView). u.serial) p.1) ∙ same
+            ∙ rule.own_serial w c.seat x view h busy c.held (sym owes.number ∙ ap (λ (u : WorkerView). u.number) p.1 ∙ e)
       ]
       | inr p ↦ rule.own_serial w i x v h busy p.1 e
     ]

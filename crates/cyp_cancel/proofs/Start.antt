@@ -1,16 +1,9 @@
 -- The table at the start meets the rule.
-use Rattle.std.proofs.Common.{◌≡◌, refl, sym, ◌∙◌, ap, subst, ℕ, zero, suc, ◌+◌, ◌<◌, ◌==◌, Bool, true, false, cond, ◌⊎◌, inl, inr, List, [], ◌∷◌, ◌++◌, length, replicate, Option, Some, None, slice_get, slice_set, arith}
-use Rattle.std.specs.List.{Contains}
-use Rattle.std.proofs.lemmas.Bool.{eqb-true}
-use Rattle.std.proofs.lemmas.List.{length-set, length-append}
-use Rattle.std.proofs.lemmas.List.Elements.{Contains-append_left, Contains-push}
+use Rattle.std.proofs.Common.{◌≡◌, refl, sym, ℕ, zero, suc, [], ◌∷◌, replicate, Some, slice_get}
 use Rattle.std.proofs.lemmas.Option.{same_Some}
-use Rattle.cyp_cancel.specs.Words.{Word, Idle, Run, Stop, serial_of, is_run, after_stop}
-use Rattle.cyp_cancel.specs.Views.{Stopped, WorkerView, View, Maker, Worker, Table, fresh_table, new_worker, with_found, with_stopped, after_stopping}
-use Rattle.cyp_cancel.specs.Kinds.{Kind, Begin, Poll, End, StopOf, Split, HasWord, HasView, Changes, Begins, Polls, Ends, Stops, Splits, Makes}
-use Rattle.cyp_cancel.specs.Rule.{OneMaker, HasNoView, KeepsRule}
-use Rattle.cyp_cancel.proofs.Places.{at_set, set_here, set_else, at_push, push_before, push_last}
-use Rattle.cyp_cancel.proofs.Same.{same_Worker, same_Maker, same_Stop}
+use Rattle.cyp_cancel.specs.Words.{Word, Idle, Stop}
+use Rattle.cyp_cancel.specs.Views.{WorkerView, Maker, Worker, fresh_table}
+use Rattle.cyp_cancel.specs.Rule.{KeepsRule}
 
 all_idle : (n w : ℕ) (x : Word) → slice_get (replicate n Idle) w ≡ Some x → x ≡ Idle
 all_idle zero w x e = cc

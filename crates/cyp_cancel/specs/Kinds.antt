@@ -1,5 +1,5 @@
 -- The atomic steps on the table of words: each reads or changes one word, and changes one seat's view.
-use Rattle.std.specs.Prelude.{◌≡◌, ℕ, suc, List, [], ◌∷◌, ◌++◌, slice_get, slice_set, Some, None}
+use Rattle.std.specs.Prelude.{◌≡◌, ℕ, suc, [], ◌∷◌, ◌++◌, slice_get, slice_set, Some, None}
 use Rattle.cyp_cancel.specs.Words.{Word, Idle, Run, after_stop}
 use Rattle.cyp_cancel.specs.Views.{WorkerView, View, Maker, Worker, Table, new_worker, with_found, after_stopping}
 

@@ -2,7 +2,7 @@
 use Rattle.std.specs.Prelude.{◌≡◌, ℕ, suc, ◌<◌, length}
 use Rattle.std.specs.List.{Contains}
 use Rattle.cyp_cancel.specs.Words.{Word, Idle, Stop, serial_of}
-use Rattle.cyp_cancel.specs.Views.{Stopped, WorkerView, Maker, Worker, Table}
+use Rattle.cyp_cancel.specs.Views.{WorkerView, Maker, Worker, Table}
 use Rattle.cyp_cancel.specs.Kinds.{HasWord, HasView}
 
 -- one view is the maker's, and it holds the number of workers made, each of which has a view
