@@ -1,6 +1,7 @@
 pub mod Changed
 pub mod FoundWord
 pub mod KindsKeep
+pub mod KindsLeaveWords
 pub mod NewWorker
 pub mod Numbers
 pub mod OwnWord
