@@ -12,6 +12,7 @@ use Rattle.cyp_crew.specs.Claims.{crew_tree}
 use Rattle.cyp_crew.specs.Machine.{after}
 use Rattle.cyp_crew.specs.Board.{StandsFor, fresh_board}
 use Rattle.cyp_crew.specs.Journals.{commits_in, after_all, is_journal, LeadsTo, Passes, DecidedBy, crew_report}
+use Rattle.cyp_crew.specs.Orderly.{IsOrderly}
 
 -- a journal goes through one list of states
 pub record OnePath {R N : Type 0} (t : Task R N) (vs : List Event) : Type 0 where
@@ -49,6 +50,10 @@ StayLaw R N = (t : Task R N) (c d : Crew N) (v : Event) → (v ≡ Commit → �
 -- the stage after a journal has the number of its commits
 abbrev pub StageLaw : (R N : Type 0) → Type 0
 StageLaw R N = (t : Task R N) (vs : List Event) (c : Crew N) → LeadsTo t vs c → c.commits ≡ commits_in vs
+
+-- the claims of a journal are in order
+abbrev pub OrderlyLaw : (R N : Type 0) → Type 0
+OrderlyLaw R N = (t : Task R N) (vs : List Event) (c : Crew N) → LeadsTo t vs c → IsOrderly c
 
 -- each decided journal has the report of the search by one thread
 abbrev pub CrewLaw : (R N : Type 0) → Type 0

@@ -4,3 +4,4 @@ pub mod Crews
 pub mod Journals
 pub mod Laws
 pub mod Machine
+pub mod Orderly

@@ -1,4 +1,4 @@
-ghost use Rattle.cyp_crew.specs.Laws.{OnePathLaw, PrefixLaw, CommitLaw, StayLaw, StageLaw, CrewLaw, CrewIsReport, TwoJournalsLaw, FreshBoardLaw};
+ghost use Rattle.cyp_crew.specs.Laws.{OnePathLaw, PrefixLaw, CommitLaw, StayLaw, StageLaw, OrderlyLaw, CrewLaw, CrewIsReport, TwoJournalsLaw, FreshBoardLaw};
 
 /// Law: a journal goes through exactly one list of states.
 pub fn journal_goes_through_one_list_of_states<R, N>()
@@ -25,6 +25,12 @@ pub fn other_events_keep_the_stage<R, N>()
 /// Law: the stage after a journal has the number of its commits.
 pub fn stage_is_the_number_of_commits<R, N>()
     ensures { StageLaw R N }
+{}
+
+/// Law: after each journal the outstanding claims are in rising serial, none above the number of
+/// claims that were made, which is at most 2^62; workers are below 32 and have at most four each.
+pub fn claims_are_in_order<R, N>()
+    ensures { OrderlyLaw R N }
 {}
 
 /// Law: each decided journal of a root and settings has the report of the search by one thread.
