@@ -12,15 +12,15 @@ use Rattle.cyp_crew.specs.Journals.{after_all, is_journal, is_decided, crew_repo
 use Rattle.cyp_crew.specs.Board.{StandsFor, fresh_board}
 use Rattle.cyp_crew.proofs.FreshBoard.{fresh_stands}
 
-abbrev ways : ℕ → List (AltOf ℕ ℕ)
+abbrev pub ways : ℕ → List (AltOf ℕ ℕ)
 ways zero = record { rule = 10; cost = 1; premises = 1 ∷ [] } ∷ (record { rule = 20; cost = 2; premises = 2 ∷ [] } ∷ [])
 ways (suc zero) = record { rule = 11; cost = 0; premises = [] } ∷ []
 ways (suc (suc n)) = []
 
-abbrev space : Moving ℕ ℕ
+abbrev pub space : Moving ℕ ℕ
 space = record { moves = ways; weight = λ n. 0 }
 
-abbrev task : Task ℕ ℕ
+abbrev pub task : Task ℕ ℕ
 task = record { space = space; root = 0; budget = 10; nodes = 100; same = λ a b. a == b }
 
 -- whether a journal is decided, and its report
@@ -93,7 +93,7 @@ other_report = refl
 abbrev short : Task ℕ ℕ
 short = record task { budget = 1 }
 
-abbrev one_commit : List Event
+abbrev pub one_commit : List Event
 one_commit = Claim 0 1 ∷ (Publish 0 1 ∷ (Commit ∷ []))
 
 spent_decided : decided_in short (by short one_commit) ≡ true

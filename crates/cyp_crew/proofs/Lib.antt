@@ -1,3 +1,4 @@
+pub mod BoardExample
 pub mod DecidedReport
 pub mod Examples
 pub mod FreshBoard
