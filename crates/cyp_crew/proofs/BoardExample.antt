@@ -10,7 +10,7 @@ use Rattle.cyp_crew.specs.declared.event.Event.{Event}
 use Rattle.cyp_crew.specs.declared.event.Event.TheVariants.{Claim}
 use Rattle.cyp_crew.specs.Crews.{Outstanding, Crew}
 use Rattle.cyp_crew.specs.Claims.{crew_leaves, is_free}
-use Rattle.cyp_crew.specs.Board.{Mark, Place, Entry, PlainBoard, entry_of, stage_marks, IsRight, HasTree, HasMemo, HasOrders, HasRoom, StandsFor}
+use Rattle.cyp_crew.specs.Board.{Mark, Place, Entry, PlainBoard, entry_of, stage_marks, IsRight, StandsFor}
 use Rattle.cyp_crew.proofs.Examples.{ways, space, task, one_commit}
 
 abbrev so_far : List Event

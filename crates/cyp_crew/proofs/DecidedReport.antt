@@ -1,13 +1,12 @@
 -- Each decided journal gives the report of the search by one thread.
-use Rattle.std.proofs.Common.{◌≡◌, refl, sym, ◌∙◌, ap, ℕ, zero, suc, ◌<◌, ◌≤◌, ◌==◌, Bool, true, false, not, ◌&&◌, ◌||◌, ◌⊎◌, inl, inr, List, [], ◌∷◌, Option, Some, None, nat_le, arith, subst, IsTrue}
+use Rattle.std.proofs.Common.{◌≡◌, refl, sym, ◌∙◌, ap, ℕ, suc, ◌<◌, ◌==◌, Bool, true, false, not, ◌&&◌, ◌||◌, inl, inr, List, [], ◌∷◌, Option, Some, None, arith, subst}
 use Rattle.std.specs.Option.{option_and_then}
-use Rattle.std.proofs.lemmas.Bool.{cases_lt, and_parts, ltb-true, ne_eqb}
+use Rattle.std.proofs.lemmas.Bool.{cases_lt, ltb-true, ne_eqb}
 use Rattle.cyp_tree.specs.declared.status.Status.{Status}
 use Rattle.cyp_tree.specs.declared.status.Status.TheVariants.{Open, Solved, Failed}
 use Rattle.cyp_tree.specs.Statuses.{status}
 use Rattle.cyp_tree.specs.Derivations.{Derivation, chosen_derivation}
-use Rattle.cyp_search.specs.Stages.{stage}
-use Rattle.cyp_search.specs.Reports.{PlainVerdict, PlainReport, Spent, verdict_at, ending_by, ending, report, IsReport}
+use Rattle.cyp_search.specs.Reports.{PlainVerdict, PlainReport, verdict_at, ending_by, ending, report, IsReport}
 use Rattle.cyp_search.proofs.ReportProof.{report_law}
 use Rattle.cyp_search.proofs.OneReport.{one_report}
 use Rattle.cyp_crew.specs.declared.event.Event.{Event}
@@ -15,7 +14,7 @@ use Rattle.cyp_crew.specs.declared.event.Event.TheVariants.{Claim, Publish, Aban
 use Rattle.cyp_crew.specs.Crews.{Task, Crew, fresh_crew}
 use Rattle.cyp_crew.specs.Claims.{crew_tree, next_published}
 use Rattle.cyp_crew.specs.Machine.{is_open, next_fits, after}
-use Rattle.cyp_crew.specs.Journals.{commits_in, after_all, is_decided, DecidedBy, crew_report}
+use Rattle.cyp_crew.specs.Journals.{commits_in, after_all, DecidedBy, crew_report}
 use Rattle.cyp_crew.proofs.Steps.{May, may_commit_of, commit_law, stay_law, open_from}
 use Rattle.cyp_crew.proofs.Paths.{stage_law}
 

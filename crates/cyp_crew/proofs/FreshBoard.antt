@@ -1,11 +1,9 @@
 -- A fresh board stands for its search and the empty journal.
-use Rattle.std.proofs.Common.{◌≡◌, refl, sym, ◌∙◌, ap, ℕ, zero, suc, ◌+◌, List, [], ◌∷◌, Option, Some, None, slice_get, arith}
+use Rattle.std.proofs.Common.{◌≡◌, refl, sym, ◌∙◌, ap, ℕ, zero, suc, ◌+◌, [], ◌∷◌, Some, slice_get, arith}
 use Rattle.std.specs.List.{Contains}
-use Rattle.cyp_space.specs.Alts.{AltOf}
 use Rattle.cyp_tree.specs.Live.{Waiting}
-use Rattle.cyp_crew.specs.Crews.{Task, Outstanding, fresh_crew}
-use Rattle.cyp_crew.specs.Claims.{crew_leaves, is_free}
-use Rattle.cyp_crew.specs.Board.{Mark, Place, Entry, entry_of, stage_marks, IsRight, HasTree, HasMemo, HasOrders, HasRoom, StandsFor, root_mark, fresh_board}
+use Rattle.cyp_crew.specs.Crews.{Task, fresh_crew}
+use Rattle.cyp_crew.specs.Board.{Mark, Place, Entry, entry_of, IsRight, StandsFor, root_mark, fresh_board}
 
 contains_none : {X : Type 0} (x : X) → Contains [] x → ⊥
 contains_none x (k, h, e) = omega arith

@@ -1,5 +1,5 @@
 -- The outstanding claims of each journal are in order.
-use Rattle.std.proofs.Common.{◌≡◌, refl, sym, ◌∙◌, ap, subst, ℕ, suc, ◌+◌, ◌^◌, ◌<◌, ◌≤◌, ◌==◌, Bool, true, false, cond, not, ◌&&◌, nat_lt, nat_le, List, [], ◌∷◌, ◌++◌, map, filter, Option, Some, None, arith}
+use Rattle.std.proofs.Common.{◌≡◌, refl, sym, ◌∙◌, ap, subst, ℕ, suc, ◌+◌, ◌^◌, ◌<◌, ◌≤◌, ◌==◌, Bool, true, false, cond, not, ◌&&◌, nat_lt, nat_le, List, [], ◌∷◌, ◌++◌, filter, Option, Some, None, arith}
 use Rattle.std.specs.Option.{option_and_then}
 use Rattle.std.specs.List.{count_by}
 use Rattle.std.proofs.lemmas.Bool.{and_parts, ltb-true, leb-true, eqb-true}
@@ -8,11 +8,10 @@ use Rattle.cyp_tree.specs.Live.{Waiting}
 use Rattle.cyp_crew.specs.declared.event.Event.{Event}
 use Rattle.cyp_crew.specs.declared.event.Event.TheVariants.{Claim, Publish, Abandon, Cancel, Commit}
 use Rattle.cyp_crew.specs.Crews.{Task, Outstanding, Crew, fresh_crew}
-use Rattle.cyp_crew.specs.Claims.{is_claim_of, claim_of, claim_at, without_claim, cancelled_at, with_cancelled, free_leaf, is_live}
+use Rattle.cyp_crew.specs.Claims.{is_claim_of, claim_of, claim_at, without_claim, with_cancelled, free_leaf, is_live}
 use Rattle.cyp_crew.specs.Machine.{where_so, claims_of, may_claim, with_claim, with_publish, with_abandon, with_cancel, may_commit, after}
 use Rattle.cyp_crew.specs.Journals.{after_all, LeadsTo}
 use Rattle.cyp_crew.specs.Orderly.{InOrder, IsOrderly}
-use Rattle.cyp_crew.proofs.Steps.{so_tested, so_led}
 
 module _ {N : Type 0} where
   abbrev has_worker : ℕ → Outstanding N → Bool

@@ -1,5 +1,5 @@
 -- What one event does to the stage of a crew.
-use Rattle.std.proofs.Common.{◌≡◌, refl, sym, ap, ℕ, suc, ◌+◌, Bool, true, false, not, ◌&&◌, List, Option, Some, None, nat_lt}
+use Rattle.std.proofs.Common.{◌≡◌, refl, sym, ap, ℕ, suc, Bool, true, false, not, ◌&&◌, Option, Some, None, nat_lt}
 use Rattle.std.proofs.lemmas.Bool.{and_parts}
 use Rattle.std.proofs.lemmas.Option.{same_Some}
 use Rattle.cyp_tree.specs.declared.status.Status.{Status}
@@ -56,17 +56,16 @@ module _ {R N : Type 0} (t : Task R N) where
       let same : record c { commits = suc c.commits } ≡ d = committed c d e in
       let may : May c = may_commit_of c d e in
       record {
-    was_open = open_from (status (crew_tree t c)) may.opened;
-    tree = λ i. crew_tree t (sym same i);
-    commits = λ i. (sym same i).commits;
-    published = λ i. (sym same i).published;
-    outstanding = λ i. (sym same i).outstanding;
-    claims = λ i. (sym same i).claims;
-  }
+        was_open = open_from (status (crew_tree t c)) may.opened;
+        tree = λ i. crew_tree t (sym same i);
+        commits = λ i. (sym same i).commits;
+        published = λ i. (sym same i).published;
+        outstanding = λ i. (sym same i).outstanding;
+        claims = λ i. (sym same i).claims;
+      }
 
   abbrev SameStage : Crew N → Option (Crew N) → Type 0
   SameStage c o = (d : Crew N) → o ≡ Some d → d.commits ≡ c.commits
-
 
   stay_claim : (c : Crew N) (w s : ℕ) (l : Option (Waiting N)) → SameStage c (with_claim c w s l)
   stay_claim c w s None d e = cc

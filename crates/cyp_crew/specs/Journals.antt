@@ -1,5 +1,5 @@
 -- Journals: what a crew has done, event by event, and when its answer is decided.
-use Rattle.std.specs.Prelude.{◌≡◌, IsTrue, ℕ, suc, ◌==◌, Bool, not, ◌&&◌, ◌||◌, List, [], ◌∷◌, Option, Some, None, is_some}
+use Rattle.std.specs.Prelude.{◌≡◌, IsTrue, ℕ, suc, ◌==◌, Bool, not, ◌&&◌, ◌||◌, List, [], ◌∷◌, Option, Some, is_some}
 use Rattle.std.specs.Option.{option_and_then}
 use Rattle.cyp_tree.specs.Statuses.{status}
 use Rattle.cyp_search.specs.Reports.{PlainReport, report_at}

@@ -1,5 +1,5 @@
 -- Laws of crews: whatever the order of their events, they give the answer of one thread.
-use Rattle.std.specs.Prelude.{◌≡◌, IsTrue, ℕ, suc, List, [], ◌++◌, Some}
+use Rattle.std.specs.Prelude.{◌≡◌, IsTrue, suc, List, [], ◌++◌, Some}
 use Rattle.std.specs.Option.{option_and_then}
 use Rattle.cyp_tree.specs.declared.status.Status.TheVariants.{Open}
 use Rattle.cyp_tree.specs.Statuses.{status}

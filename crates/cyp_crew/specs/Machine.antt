@@ -1,5 +1,5 @@
 -- The events that a crew may make, and what each leaves.
-use Rattle.std.specs.Prelude.{ℕ, suc, ◌^◌, ◌==◌, Bool, true, false, not, ◌&&◌, List, [], ◌∷◌, ◌++◌, count_by, nat_le, nat_lt, Option, Some, None}
+use Rattle.std.specs.Prelude.{ℕ, suc, ◌^◌, ◌==◌, Bool, true, false, not, ◌&&◌, [], ◌∷◌, ◌++◌, count_by, nat_le, nat_lt, Option, Some, None}
 use Rattle.cyp_tree.specs.declared.status.Status.{Status}
 use Rattle.cyp_tree.specs.declared.status.Status.TheVariants.{Open, Solved, Failed}
 use Rattle.cyp_tree.specs.Statuses.{status}
