@@ -1,10 +1,11 @@
 -- Laws of trees.
-use Rattle.std.specs.Prelude.{◌≡◌, ℕ, ◌+◌, List, Some, IsSome}
+use Rattle.std.specs.Prelude.{◌≡◌, ℕ, ◌+◌, ◌≤◌, ◌⊎◌, List, Some, IsSome}
+use Rattle.std.specs.List.{Contains}
 use Rattle.cyp_space.specs.Alts.{AltOf}
 use Rattle.cyp_tree.specs.declared.status.Status.TheVariants.{Open, Solved}
 use Rattle.cyp_tree.specs.Trees.{Tree, Alts}
 use Rattle.cyp_tree.specs.Statuses.{status}
-use Rattle.cyp_tree.specs.Live.{Waiting, next_leaf}
+use Rattle.cyp_tree.specs.Live.{Waiting, live_leaves, next_leaf}
 use Rattle.cyp_tree.specs.Derivations.{chosen_derivation}
 use Rattle.cyp_tree.specs.Sizes.{size, alts_size}
 use Rattle.cyp_tree.specs.Growing.{new_alts, graft}
@@ -37,3 +38,13 @@ GraftedIsRising R N = (t : Tree R N) (k : ℕ) (as' : List (AltOf R N)) → IsNu
 -- the trees of new alternatives have the numbers from the given one on, in order
 abbrev pub NewAreARun : (R N : Type 0) → Type 0
 NewAreARun R N = (k : ℕ) (as' : List (AltOf R N)) → alts_numbers (new_alts k as') ≡ run_from k (alts_size (new_alts k as'))
+
+-- a decided tree stays as decided as it is
+abbrev pub DecidedStays : (R N : Type 0) → Type 0
+DecidedStays R N = (t : Tree R N) (k : ℕ) (new : Alts R N) → (status t ≡ Open → ⊥) → status (graft k new t) ≡ status t
+
+-- a leaf that is live after its tree has grown was live before, and isn't the leaf of the new alternatives, or it is new
+abbrev pub LiveAfterGraft : (R N : Type 0) → Type 0
+LiveAfterGraft R N =
+    (weight : N → ℕ) (t : Tree R N) (k : ℕ) (as' : List (AltOf R N)) (w : Waiting N) → Contains (live_leaves weight 0 (graft k (new_alts (size t) as') t)) w
+    → (Contains (live_leaves weight 0 t) w × (w.number ≡ k → ⊥)) ⊎ (size t ≤ w.number)

@@ -1,4 +1,4 @@
-ghost use Rattle.cyp_tree.specs.Laws.{OpenHasNext, SolvedHasDerivation, NextIsALeaf, GraftedIsNumbered, GraftedSize, GraftedIsRising, NewAreARun};
+ghost use Rattle.cyp_tree.specs.Laws.{OpenHasNext, SolvedHasDerivation, NextIsALeaf, GraftedIsNumbered, GraftedSize, GraftedIsRising, NewAreARun, DecidedStays, LiveAfterGraft};
 
 /// Law: a tree with an open root has a live leaf, and so a next one.
 pub fn open_tree_has_a_next_leaf<R, N>()
@@ -35,4 +35,15 @@ pub fn grafted_tree_is_rising<R, N>()
 /// Law: the premises of new alternatives get one number after the other, in order.
 pub fn new_numbers_are_a_run<R, N>()
     ensures { NewAreARun R N }
+{}
+
+/// Law: a solved tree stays solved and a failed one failed, whatever is put at its leaves.
+pub fn decided_tree_stays<R, N>()
+    ensures { DecidedStays R N }
+{}
+
+/// Law: a leaf that is live after alternatives were put at a leaf was live before and is another
+/// leaf, or it is one of the new leaves.
+pub fn live_leaf_was_live<R, N>()
+    ensures { LiveAfterGraft R N }
 {}
