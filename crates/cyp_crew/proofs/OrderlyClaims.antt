@@ -19,7 +19,7 @@ module _ {N : Type 0} where
 
   -- ---- lists of claims
 
-  lower : (i j high : ℕ) (os : List (Outstanding N)) → i ≤ j → InOrder j high os → InOrder i high os
+  pub lower : (i j high : ℕ) (os : List (Outstanding N)) → i ≤ j → InOrder j high os → InOrder i high os
   lower i j high [] h is = tt
   lower i j high (o ∷ os) h is = (omega (arith, is.0), is.1, is.2, is.3)
 
@@ -27,7 +27,7 @@ module _ {N : Type 0} where
   kept_if true low high o os is = is
   kept_if false low high o os is = lower low o.serial high os (omega (arith, is.0)) is.3
 
-  filtered : (p : Outstanding N → Bool) (low high : ℕ) (os : List (Outstanding N)) → InOrder low high os → InOrder low high (filter p os)
+  pub filtered : (p : Outstanding N → Bool) (low high : ℕ) (os : List (Outstanding N)) → InOrder low high os → InOrder low high (filter p os)
   filtered p low high [] is = tt
   filtered p low high (o ∷ os) is = kept_if (p o) low high o (filter p os) (is.0, is.1, is.2, filtered p o.serial high os is.3)
 
@@ -36,7 +36,7 @@ module _ {N : Type 0} where
   cancelled_first true low high o os is = is
   cancelled_first false low high o os is = is
 
-  cancelled_in_order : (s low high : ℕ) (os : List (Outstanding N)) → InOrder low high os → InOrder low high (with_cancelled s os)
+  pub cancelled_in_order : (s low high : ℕ) (os : List (Outstanding N)) → InOrder low high os → InOrder low high (with_cancelled s os)
   cancelled_in_order s low high [] is = tt
   cancelled_in_order s low high (o ∷ os) is = cancelled_first (o.serial == s) low high o (with_cancelled s os) (is.0, is.1, is.2, cancelled_in_order s o.serial high os is.3)
 
@@ -78,7 +78,7 @@ module _ {N : Type 0} where
   }
 
   -- so it is of the state, where there is one
-  abbrev OrderlyIn : Option (Crew N) → Type 0
+  abbrev pub OrderlyIn : Option (Crew N) → Type 0
   OrderlyIn None = Unit {0}
   OrderlyIn (Some c) = IsOrderly c
 
@@ -130,7 +130,7 @@ module _ {R N : Type 0} (t : Task R N) where
       orderly_if (not o.cancelled && not (is_live t c o.leaf)) (Some (record c { outstanding = with_cancelled o.serial c.outstanding }))
       (λ e. record { in_order = cancelled_in_order o.serial 0 c.claims c.outstanding is.in_order; few = λ v. omega (arith, count_cancelled v o.serial c.outstanding, is.few v); most = is.most })
 
-  after_orderly : (c : Crew N) (v : Event) → IsOrderly c → OrderlyIn (after t c v)
+  pub after_orderly : (c : Crew N) (v : Event) → IsOrderly c → OrderlyIn (after t c v)
   after_orderly c (Claim w s) is = orderly_if (may_claim c w s) (with_claim c w s (free_leaf t c)) (λ e. claim_orderly c w s (free_leaf t c) (may_parts c w s e) is)
   after_orderly c (Publish w s) is = publish_orderly c (claim_of c w s) is
   after_orderly c (Abandon w s) is = abandon_orderly c (claim_of c w s) is

@@ -1,5 +1,5 @@
 -- Laws of crews: whatever the order of their events, they give the answer of one thread.
-use Rattle.std.specs.Prelude.{◌≡◌, IsTrue, suc, List, [], ◌++◌, Some}
+use Rattle.std.specs.Prelude.{◌≡◌, IsTrue, suc, List, [], ◌∷◌, ◌++◌, Some}
 use Rattle.std.specs.Option.{option_and_then}
 use Rattle.cyp_tree.specs.declared.status.Status.TheVariants.{Open}
 use Rattle.cyp_tree.specs.Statuses.{status}
@@ -12,7 +12,8 @@ use Rattle.cyp_crew.specs.Claims.{crew_tree}
 use Rattle.cyp_crew.specs.Machine.{after}
 use Rattle.cyp_crew.specs.Board.{StandsFor, fresh_board}
 use Rattle.cyp_crew.specs.Journals.{commits_in, after_all, is_journal, LeadsTo, Passes, DecidedBy, crew_report}
-use Rattle.cyp_crew.specs.Orderly.{IsOrderly}
+use Rattle.cyp_crew.specs.Killed.{killed, cancellations}
+use Rattle.cyp_crew.specs.Orderly.{InOrder, IsOrderly}
 
 -- a journal goes through one list of states
 pub record OnePath {R N : Type 0} (t : Task R N) (vs : List Event) : Type 0 where
@@ -54,6 +55,12 @@ StageLaw R N = (t : Task R N) (vs : List Event) (c : Crew N) → LeadsTo t vs c 
 -- the claims of a journal are in order
 abbrev pub OrderlyLaw : (R N : Type 0) → Type 0
 OrderlyLaw R N = (t : Task R N) (vs : List Event) (c : Crew N) → LeadsTo t vs c → IsOrderly c
+
+-- after a commit the claims whose leaf was live and isn't any more, which are in rising serial, may all be cancelled, in order
+abbrev pub KilledLaw : (R N : Type 0) → Type 0
+KilledLaw R N =
+    (t : Task R N) (vs : List Event) (c d : Crew N) → LeadsTo t vs c → after t c Commit ≡ Some d
+    → InOrder 0 c.claims (killed t c d) × IsTrue (is_journal t (vs ++ (Commit ∷ cancellations (killed t c d))))
 
 -- each decided journal has the report of the search by one thread
 abbrev pub CrewLaw : (R N : Type 0) → Type 0

@@ -1,4 +1,4 @@
-ghost use Rattle.cyp_crew.specs.Laws.{OnePathLaw, PrefixLaw, CommitLaw, StayLaw, StageLaw, OrderlyLaw, CrewLaw, CrewIsReport, TwoJournalsLaw, FreshBoardLaw};
+ghost use Rattle.cyp_crew.specs.Laws.{OnePathLaw, PrefixLaw, CommitLaw, StayLaw, StageLaw, OrderlyLaw, KilledLaw, CrewLaw, CrewIsReport, TwoJournalsLaw, FreshBoardLaw};
 
 /// Law: a journal goes through exactly one list of states.
 pub fn journal_goes_through_one_list_of_states<R, N>()
@@ -31,6 +31,12 @@ pub fn stage_is_the_number_of_commits<R, N>()
 /// claims that were made, which is at most 2^62; workers are below 32 and have at most four each.
 pub fn claims_are_in_order<R, N>()
     ensures { OrderlyLaw R N }
+{}
+
+/// Law: after a commit each claim whose leaf was live before it and isn't live after it may be
+/// cancelled, one after the other in rising serial.
+pub fn killed_claims_may_be_cancelled<R, N>()
+    ensures { KilledLaw R N }
 {}
 
 /// Law: each decided journal of a root and settings has the report of the search by one thread.
