@@ -9,6 +9,7 @@ use Rattle.cyp_crew.specs.declared.event.Event.TheVariants.{Claim, Publish, Aban
 use Rattle.cyp_crew.specs.Crews.{Task, Outstanding, Crew, fresh_crew}
 use Rattle.cyp_crew.specs.Claims.{is_live}
 use Rattle.cyp_crew.specs.Journals.{after_all, is_journal, is_decided, crew_report}
+use Rattle.cyp_crew.specs.Killed.{killed, cancellations}
 use Rattle.cyp_crew.specs.Board.{StandsFor, fresh_board}
 use Rattle.cyp_crew.proofs.FreshBoard.{fresh_stands}
 
@@ -76,6 +77,15 @@ live_before = refl
 
 dead_after : live_in task (by task solving) 2 ≡ false
 dead_after = refl
+
+-- the claims that the second commit leaves without a live leaf
+abbrev killed_in : Option (Crew ℕ) → Option (Crew ℕ) → List (Outstanding ℕ)
+killed_in (Some c) (Some d) = killed task c d
+killed_in (Some c) None = []
+killed_in None d = []
+
+one_killed : cancellations (killed_in (by task (Claim 0 1 ∷ (Publish 0 1 ∷ (Commit ∷ (Claim 0 2 ∷ (Claim 1 3 ∷ (Publish 0 2 ∷ []))))))) (by task solving)) ≡ Cancel 3 ∷ []
+one_killed = refl
 
 -- ---- the same answer in another order
 

@@ -6,5 +6,6 @@ pub mod Examples
 pub mod FreshBoard
 pub mod OrderlyClaims
 pub mod Paths
+pub mod Published
 pub mod SettledClaims
 pub mod Steps

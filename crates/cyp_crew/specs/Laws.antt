@@ -1,5 +1,6 @@
 -- Laws of crews: whatever the order of their events, they give the answer of one thread.
 use Rattle.std.specs.Prelude.{◌≡◌, IsTrue, suc, List, [], ◌∷◌, ◌++◌, Some}
+use Rattle.std.specs.List.{Contains}
 use Rattle.std.specs.Option.{option_and_then}
 use Rattle.cyp_tree.specs.declared.status.Status.TheVariants.{Open}
 use Rattle.cyp_tree.specs.Statuses.{status}
@@ -7,8 +8,8 @@ use Rattle.cyp_tree.specs.Growing.{expand_next}
 use Rattle.cyp_search.specs.Reports.{IsReport, report}
 use Rattle.cyp_crew.specs.declared.event.Event.{Event}
 use Rattle.cyp_crew.specs.declared.event.Event.TheVariants.{Commit}
-use Rattle.cyp_crew.specs.Crews.{Task, Crew, fresh_crew}
-use Rattle.cyp_crew.specs.Claims.{crew_tree}
+use Rattle.cyp_crew.specs.Crews.{Task, TellsEqual, Crew, fresh_crew}
+use Rattle.cyp_crew.specs.Claims.{crew_tree, is_published}
 use Rattle.cyp_crew.specs.Machine.{after}
 use Rattle.cyp_crew.specs.Board.{StandsFor, fresh_board}
 use Rattle.cyp_crew.specs.Journals.{commits_in, after_all, is_journal, LeadsTo, Passes, DecidedBy, crew_report}
@@ -51,6 +52,11 @@ StayLaw R N = (t : Task R N) (c d : Crew N) (v : Event) → (v ≡ Commit → �
 -- the stage after a journal has the number of its commits
 abbrev pub StageLaw : (R N : Type 0) → Type 0
 StageLaw R N = (t : Task R N) (vs : List Event) (c : Crew N) → LeadsTo t vs c → c.commits ≡ commits_in vs
+
+-- where the test of nodes tells equal ones, a node is published exactly where it is in the list
+abbrev pub PublishedLaw : (R N : Type 0) → Type 0
+PublishedLaw R N =
+    (t : Task R N) (c : Crew N) (n : N) → TellsEqual t.same → (IsTrue (is_published t c n) → Contains c.published n) × (Contains c.published n → IsTrue (is_published t c n))
 
 -- the claims of a journal are in order
 abbrev pub OrderlyLaw : (R N : Type 0) → Type 0

@@ -1,4 +1,4 @@
-ghost use Rattle.cyp_crew.specs.Laws.{OnePathLaw, PrefixLaw, CommitLaw, StayLaw, StageLaw, OrderlyLaw, KilledLaw, CrewLaw, CrewIsReport, TwoJournalsLaw, FreshBoardLaw};
+ghost use Rattle.cyp_crew.specs.Laws.{OnePathLaw, PrefixLaw, CommitLaw, StayLaw, StageLaw, PublishedLaw, OrderlyLaw, KilledLaw, CrewLaw, CrewIsReport, TwoJournalsLaw, FreshBoardLaw};
 
 /// Law: a journal goes through exactly one list of states.
 pub fn journal_goes_through_one_list_of_states<R, N>()
@@ -25,6 +25,12 @@ pub fn other_events_keep_the_stage<R, N>()
 /// Law: the stage after a journal has the number of its commits.
 pub fn stage_is_the_number_of_commits<R, N>()
     ensures { StageLaw R N }
+{}
+
+/// Law: where the test of nodes tells equal ones, a node is published exactly where it is in the
+/// list of published nodes.
+pub fn published_nodes_are_listed<R, N>()
+    ensures { PublishedLaw R N }
 {}
 
 /// Law: after each journal the outstanding claims are in rising serial, none above the number of
