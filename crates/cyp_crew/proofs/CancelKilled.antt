@@ -1,16 +1,16 @@
 -- After a commit each claim whose leaf is no longer live may be cancelled, one after the other.
-use Rattle.std.proofs.Common.{◌≡◌, refl, sym, ◌∙◌, ap, subst, IsTrue, ℕ, suc, ◌<◌, ◌≤◌, ◌==◌, Bool, true, false, not, ◌&&◌, List, [], ◌∷◌, ◌++◌, slice_index_or, Option, Some, None, is_some, arith}
+use Rattle.std.proofs.Common.{◌≡◌, refl, sym, ◌∙◌, ap, subst, IsTrue, ℕ, ◌<◌, Bool, true, false, not, ◌&&◌, List, [], ◌∷◌, ◌++◌, slice_index_or, Option, Some, is_some, arith}
 use Rattle.std.specs.Option.{option_and_then}
 use Rattle.std.specs.List.{All, Contains}
 use Rattle.std.proofs.lemmas.Bool.{and_parts}
-use Rattle.std.proofs.lemmas.List.Elements.{All-head, All-tail, All-weaker, All-contains_itself}
+use Rattle.std.proofs.lemmas.List.Elements.{All-head, All-tail, All-contains_itself}
 use Rattle.cyp_crew.specs.declared.event.Event.{Event}
 use Rattle.cyp_crew.specs.declared.event.Event.TheVariants.{Cancel, Commit}
 use Rattle.cyp_crew.specs.Crews.{Task, Outstanding, Crew, fresh_crew}
-use Rattle.cyp_crew.specs.Claims.{claim_at, with_cancelled, is_live}
+use Rattle.cyp_crew.specs.Claims.{with_cancelled, is_live}
 use Rattle.cyp_crew.specs.Machine.{where_so, with_cancel, after}
 use Rattle.cyp_crew.specs.Journals.{after_all, is_journal, LeadsTo}
-use Rattle.cyp_crew.specs.Orderly.{InOrder, IsOrderly}
+use Rattle.cyp_crew.specs.Orderly.{InOrder}
 use Rattle.cyp_crew.specs.Killed.{is_killed, killed, cancellations}
 use Rattle.cyp_crew.proofs.Steps.{commit_law}
 use Rattle.cyp_crew.proofs.Paths.{after_all-append}
@@ -67,10 +67,10 @@ module _ {R N : Type 0} (t : Task R N) where
       ready o both e =
           let parts : (is_live t c o.leaf ≡ true) × (not (is_live t d o.leaf) ≡ true) = and_parts (is_live t c o.leaf) (not (is_live t d o.leaf)) e in
           record {
-        outstanding = subst (λ (l : List (Outstanding N)). Contains l o) (sym same) both.1;
-        fresh = not_cancelled o.cancelled (is_live t c o.leaf) both.0.1 parts.0;
-        dead = not_true (is_live t d o.leaf) parts.1;
-      }
+            outstanding = subst (λ (l : List (Outstanding N)). Contains l o) (sym same) both.1;
+            fresh = not_cancelled o.cancelled (is_live t c o.leaf) both.0.1 parts.0;
+            dead = not_true (is_live t d o.leaf) parts.1;
+          }
 
   pub killed_in_order : (vs : List Event) (c d : Crew N) → LeadsTo t vs c → InOrder 0 c.claims (killed t c d)
   killed_in_order vs c d e = filtered (is_killed t c d) 0 c.claims c.outstanding (orderly_law t vs c e).in_order

@@ -1,5 +1,5 @@
 -- A leaf is published where its node is in the list of published nodes.
-use Rattle.std.proofs.Common.{◌≡◌, refl, sym, ap, subst, IsTrue, ℕ, zero, suc, Bool, true, false, ◌||◌, List, [], ◌∷◌, arith}
+use Rattle.std.proofs.Common.{◌≡◌, refl, sym, ap, subst, IsTrue, zero, suc, Bool, true, false, ◌||◌, List, [], ◌∷◌, arith}
 use Rattle.std.specs.List.{Contains, list_any}
 use Rattle.cyp_crew.specs.Crews.{Task, TellsEqual, Crew}
 use Rattle.cyp_crew.specs.Claims.{is_published}

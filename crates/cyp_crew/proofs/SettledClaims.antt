@@ -1,27 +1,26 @@
 -- The leaf of each claim is in the tree, and that of a cancelled claim is never live again.
-use Rattle.std.proofs.Common.{◌≡◌, refl, sym, ◌∙◌, ap, subst, ℕ, zero, suc, ◌+◌, ◌*◌, ◌<◌, ◌≤◌, ◌==◌, ◌⊎◌, inl, inr, Bool, true, false, cond, not, ◌&&◌, ◌||◌, List, [], ◌∷◌, ◌++◌, filter, length, slice_index_or, Option, Some, None, IfSome, arith}
+use Rattle.std.proofs.Common.{◌≡◌, refl, sym, ◌∙◌, ap, subst, ℕ, zero, suc, ◌<◌, ◌≤◌, ◌==◌, inl, inr, Bool, true, false, cond, not, ◌&&◌, ◌||◌, List, [], ◌∷◌, filter, slice_index_or, Option, Some, None, IfSome, arith}
 use Rattle.std.specs.Option.{option_and_then}
 use Rattle.std.specs.List.{All, Contains, list_any}
-use Rattle.std.proofs.lemmas.Bool.{and_parts, eqb-true, eqb-false, ne_eqb, cases_lt}
+use Rattle.std.proofs.lemmas.Bool.{and_parts, eqb-true, ne_eqb, cases_lt}
 use Rattle.std.proofs.lemmas.List.Elements.{All-nil, All-push, All-weaker, All-filter, All-map, All-contains_itself}
 use Rattle.std.proofs.lemmas.List.Folds.{list_any_none}
 use Rattle.cyp_tree.specs.Trees.{Tree, Moving}
-use Rattle.cyp_tree.specs.Live.{Waiting, live_leaves, next_leaf, least_waiting}
+use Rattle.cyp_tree.specs.Live.{Waiting, live_leaves, next_leaf}
 use Rattle.cyp_tree.specs.Sizes.{size}
 use Rattle.cyp_tree.specs.Growing.{new_alts, expand_at}
 use Rattle.cyp_tree.specs.Numbers.{occurrences, IsNumbered}
 use Rattle.cyp_tree.proofs.Counting.{size-graft, leaves-le}
 use Rattle.cyp_tree.proofs.Leaves.{least_among, live_is_one_leaf}
 use Rattle.cyp_tree.proofs.LaterLeaves.{live_after}
-use Rattle.cyp_search.specs.Stages.{stage}
 use Rattle.cyp_search.proofs.NumberedStages.{stages_numbered}
 use Rattle.cyp_crew.specs.declared.event.Event.{Event}
 use Rattle.cyp_crew.specs.declared.event.Event.TheVariants.{Claim, Publish, Abandon, Cancel, Commit}
 use Rattle.cyp_crew.specs.Crews.{Task, Outstanding, Crew, fresh_crew}
-use Rattle.cyp_crew.specs.Claims.{is_claim_of, claim_of, claim_at, without_claim, cancelled_at, with_cancelled, crew_tree, crew_leaves, is_free, free_leaf, is_live}
-use Rattle.cyp_crew.specs.Machine.{where_so, may_claim, with_claim, with_publish, with_abandon, with_cancel, may_commit, after}
+use Rattle.cyp_crew.specs.Claims.{is_claim_of, claim_of, claim_at, cancelled_at, with_cancelled, crew_tree, crew_leaves, is_free, free_leaf, is_live}
+use Rattle.cyp_crew.specs.Machine.{where_so, may_claim, with_claim, with_publish, with_abandon, with_cancel, after}
 use Rattle.cyp_crew.specs.Journals.{after_all, LeadsTo}
-use Rattle.cyp_crew.specs.Orderly.{InOrder, IsOrderly}
+use Rattle.cyp_crew.specs.Orderly.{IsOrderly}
 use Rattle.cyp_crew.proofs.Steps.{commit_law}
 use Rattle.cyp_crew.proofs.ClaimLists.{only_with, found_serial}
 use Rattle.cyp_crew.proofs.OrderlyClaims.{OrderlyIn, after_orderly}
@@ -80,9 +79,9 @@ module _ {R N : Type 0} (t : Task R N) where
   live_below c w h = elim (cases_lt w.number (size (crew_tree t c))) [
     | inl l ↦ l
     | inr g ↦
-      let is : IsNumbered (crew_tree t c) = (stages_numbered t.space t.root c.commits).0 in
-      let none : occurrences w.number (crew_tree t c) ≡ 0 = is.below w.number g in
-      omega (arith, leaves-le w.number (crew_tree t c), live_is_one_leaf t.space.weight (crew_tree t c) w is h)
+        let is : IsNumbered (crew_tree t c) = (stages_numbered t.space t.root c.commits).0 in
+        let none : occurrences w.number (crew_tree t c) ≡ 0 = is.below w.number g in
+        omega (arith, leaves-le w.number (crew_tree t c), live_is_one_leaf t.space.weight (crew_tree t c) w is h)
   ]
 
   free_below : (c : Crew N) → IfSome (free_leaf t c) (λ w. w.number < size (crew_tree t c))
@@ -138,10 +137,11 @@ module _ {R N : Type 0} (t : Task R N) where
       grows = (commit_law t c d e).tree
 
       grown : (o : Outstanding N) → IsSettled c o → IsSettled d o
-      grown o (h, dead) =
-          (subst (λ (u : Tree R N). o.leaf < size u) (sym grows) (omega (arith, grown_size t.space (crew_tree t c) (next_leaf t.space.weight (crew_tree t c)))),
-          λ q. subst (λ (u : Tree R N). list_any (λ (w : Waiting N). w.number == o.leaf) (live_leaves t.space.weight 0 u) ≡ false) (sym grows)
-            (dead_stays t.space (crew_tree t c) o.leaf (next_leaf t.space.weight (crew_tree t c)) h (dead q)))
+      grown o (h, dead) = (
+        subst (λ (u : Tree R N). o.leaf < size u) (sym grows) (omega (arith, grown_size t.space (crew_tree t c) (next_leaf t.space.weight (crew_tree t c)))),
+        λ q. subst (λ (u : Tree R N). list_any (λ (w : Waiting N). w.number == o.leaf) (live_leaves t.space.weight 0 u) ≡ false) (sym grows)
+            (dead_stays t.space (crew_tree t c) o.leaf (next_leaf t.space.weight (crew_tree t c)) h (dead q)),
+      )
 
   commit_settled_in : (c : Crew N) (o : Option (Crew N)) → after t c Commit ≡ o → AllSettled c → SettledIn o
   commit_settled_in c None e is = tt

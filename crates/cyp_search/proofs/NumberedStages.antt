@@ -1,6 +1,6 @@
 -- Each stage of a search is numbered, and its numbers rise.
 use Rattle.std.proofs.Common.{ℕ, zero, suc, Option, Some, None}
-use Rattle.cyp_tree.specs.Trees.{Tree, Leaf, Moving}
+use Rattle.cyp_tree.specs.Trees.{Tree, Moving}
 use Rattle.cyp_tree.specs.Live.{Waiting, next_leaf}
 use Rattle.cyp_tree.specs.Growing.{expand_at}
 use Rattle.cyp_tree.specs.Numbers.{IsNumbered, IsRising}

@@ -1,7 +1,7 @@
 -- What a graft does to the statuses and to the live leaves of a tree.
 use Rattle.std.proofs.Common.{◌≡◌, refl, sym, ◌∙◌, ap, subst, ℕ, zero, suc, ◌+◌, ◌≤◌, ◌==◌, ◌⊎◌, inl, inr, Bool, true, false, cond, List, [], ◌∷◌, ◌++◌, length, arith}
 use Rattle.std.specs.List.{Contains}
-use Rattle.std.proofs.lemmas.Bool.{eqb-true, eqb-false}
+use Rattle.std.proofs.lemmas.Bool.{eqb-false}
 use Rattle.std.proofs.lemmas.List.Elements.{Contains-append_left, Contains-append_right, Contains-append_cases}
 use Rattle.cyp_space.specs.Alts.{AltOf}
 use Rattle.cyp_tree.specs.declared.status.Status.{Status}
@@ -99,9 +99,9 @@ module _ {R N : Type 0} (weight : N → ℕ) where
   new_from c m [] w (j, h, e) = omega arith
   new_from c m (a ∷ as') w h =
       elim (Contains-append_cases (unless_failed (parts_status first) (live_parts weight (c + a.cost) first)) (live_alts weight c (new_alts (m + length a.premises) as')) w h) [
-    | inl l ↦ new_parts_from R weight (c + a.cost) m a.premises w (within_unless (parts_status first) (live_parts weight (c + a.cost) first) w l)
-    | inr l ↦ omega (arith, new_from c (m + length a.premises) as' w l)
-  ]
+        | inl l ↦ new_parts_from R weight (c + a.cost) m a.premises w (within_unless (parts_status first) (live_parts weight (c + a.cost) first) w l)
+        | inr l ↦ omega (arith, new_from c (m + length a.premises) as' w l)
+      ]
     where
       first : Parts R N
       first = new_parts m a.premises
