@@ -41,6 +41,7 @@ abbrev live_in : Task ℕ ℕ → Option (Crew ℕ) → ℕ → Bool
 live_in t None k = false
 live_in t (Some c) k = is_live t c k
 
+-- what a journal leads to
 abbrev by : Task ℕ ℕ → List Event → Option (Crew ℕ)
 by t vs = after_all t fresh_crew vs
 

@@ -42,6 +42,7 @@ pub record Commits {R N : Type 0} (t : Task R N) (c d : Crew N) : Type 0 where
   pub outstanding : d.outstanding ≡ c.outstanding
   pub claims : d.claims ≡ c.claims
 
+-- each commit is such a step, whatever was published and when
 abbrev pub CommitLaw : (R N : Type 0) → Type 0
 CommitLaw R N = (t : Task R N) (c d : Crew N) → after t c Commit ≡ Some d → Commits t c d
 

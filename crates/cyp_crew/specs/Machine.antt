@@ -16,6 +16,7 @@ abbrev pub where_so : {N : Type 0} → Bool → Option (Crew N) → Option (Crew
 where_so true c = c
 where_so false c = None
 
+-- neither solved nor failed
 abbrev pub is_open : Status → Bool
 is_open Open = true
 is_open Solved = false
