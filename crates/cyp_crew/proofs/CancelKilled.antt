@@ -2,7 +2,7 @@
 use Rattle.std.proofs.Common.{◌≡◌, refl, sym, ◌∙◌, ap, subst, IsTrue, ℕ, ◌<◌, Bool, true, false, not, ◌&&◌, List, [], ◌∷◌, ◌++◌, slice_index_or, Option, Some, is_some, arith}
 use Rattle.std.specs.Option.{option_and_then}
 use Rattle.std.specs.List.{All, Contains}
-use Rattle.std.proofs.lemmas.Bool.{and_parts}
+use Rattle.std.proofs.lemmas.Bool.{and_parts, not-true}
 use Rattle.std.proofs.lemmas.List.Elements.{All-head, All-tail, All-contains_itself}
 use Rattle.cyp_crew.specs.declared.event.Event.{Event}
 use Rattle.cyp_crew.specs.declared.event.Event.TheVariants.{Cancel, Commit}
@@ -53,10 +53,6 @@ module _ {R N : Type 0} (t : Task R N) where
   not_cancelled false live h e = refl
   not_cancelled true live h e = let dead : live ≡ false = h refl in cc
 
-  not_true : (b : Bool) → not b ≡ true → b ≡ false
-  not_true true e = sym e
-  not_true false e = refl
-
   abbrev Both : Crew N → Outstanding N → Type 0
   Both c o = IsSettled t c o × Contains c.outstanding o
 
@@ -69,7 +65,7 @@ module _ {R N : Type 0} (t : Task R N) where
           record {
             outstanding = subst (λ (l : List (Outstanding N)). Contains l o) (sym same) both.1;
             fresh = not_cancelled o.cancelled (is_live t c o.leaf) both.0.1 parts.0;
-            dead = not_true (is_live t d o.leaf) parts.1;
+            dead = not-true (is_live t d o.leaf) parts.1;
           }
 
   pub killed_in_order : (vs : List Event) (c d : Crew N) → LeadsTo t vs c → InOrder 0 c.claims (killed t c d)

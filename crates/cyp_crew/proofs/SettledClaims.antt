@@ -2,7 +2,7 @@
 use Rattle.std.proofs.Common.{◌≡◌, refl, sym, ◌∙◌, ap, subst, ℕ, zero, suc, ◌<◌, ◌≤◌, ◌==◌, inl, inr, Bool, true, false, cond, not, ◌&&◌, ◌||◌, List, [], ◌∷◌, filter, slice_index_or, Option, Some, None, IfSome, arith}
 use Rattle.std.specs.Option.{option_and_then}
 use Rattle.std.specs.List.{All, Contains, list_any}
-use Rattle.std.proofs.lemmas.Bool.{and_parts, eqb-true, ne_eqb, cases_lt}
+use Rattle.std.proofs.lemmas.Bool.{and_parts, not-true, eqb-true, ne_eqb, cases_lt}
 use Rattle.std.proofs.lemmas.List.Elements.{All-nil, All-push, All-weaker, All-filter, All-map, All-contains_itself}
 use Rattle.std.proofs.lemmas.List.Folds.{list_any_none}
 use Rattle.cyp_tree.specs.Trees.{Tree, Moving}
@@ -109,15 +109,11 @@ module _ {R N : Type 0} (t : Task R N) where
   cancelled_settled c s true o e dead is = (is.0, λ q. dead (eqb-true o.serial s e))
   cancelled_settled c s false o e dead is = is
 
-  not_true : (b : Bool) → not b ≡ true → b ≡ false
-  not_true true e = sym e
-  not_true false e = refl
-
   cancel_settled : (c : Crew N) (s : ℕ) (o : Option (Outstanding N)) → claim_at c s ≡ o → IsOrderly c → AllSettled c → SettledIn (with_cancel t c o)
   cancel_settled c s None e order is = tt
   cancel_settled c s (Some o) e order is =
       settled_if (not o.cancelled && not (is_live t c o.leaf)) (Some (record c { outstanding = with_cancelled o.serial c.outstanding }))
-      (λ f. let dead : is_live t c o.leaf ≡ false = not_true (is_live t c o.leaf) (and_parts (not o.cancelled) (not (is_live t c o.leaf)) f).1 in
+      (λ f. let dead : is_live t c o.leaf ≡ false = not-true (is_live t c o.leaf) (and_parts (not o.cancelled) (not (is_live t c o.leaf)) f).1 in
       All-map (IsSettled c) (cancelled_at o.serial) c.outstanding
       (λ k d h. cancelled_settled c o.serial ((slice_index_or c.outstanding k d).serial == o.serial) (slice_index_or c.outstanding k d) refl
       (λ q. ap (λ (x : Outstanding N). is_live t c x.leaf) (only k d h (q ∙ serial_found)) ∙ dead) (is k d h)))

@@ -7,3 +7,4 @@ pub mod LaterLeaves
 pub mod Leaves
 pub mod NewNumbers
 pub mod Rising
+pub mod Singles
