@@ -14,6 +14,8 @@ pub mod FormedInstances
 pub mod FormedScope
 pub mod FormedGoals
 pub mod ReadGoals
+pub mod KnownSorts
+pub mod TextOrder
 pub mod Parser
 pub mod ExampleForms
 pub mod ExamplesRead
