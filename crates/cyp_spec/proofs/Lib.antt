@@ -16,6 +16,8 @@ pub mod FormedGoals
 pub mod ReadGoals
 pub mod KnownSorts
 pub mod TextOrder
+pub mod ClauseTerms
+pub mod FormedClauses
 pub mod Parser
 pub mod ExampleForms
 pub mod ExamplesRead
