@@ -22,7 +22,7 @@ use Rattle.cyp_spec.specs.ReadTerms.{Scope, rank_of, read_chunks, read_int, read
 use Rattle.cyp_spec.specs.Specifications.{clause_scope, count_sort, read_clause}
 use Rattle.cyp_spec.specs.Trees.{ClauseTree, IntTree, MinusNum, NameMinus, NamePlus, Named, Num, NumPlus, ParamTree, PredTree}
 use Rattle.cyp_spec.specs.Uses.{Use, int_uses, lit_uses, param_sort, param_uses, same_name, use_of}
-use Rattle.cyp_spec.proofs.ClauseTerms.{SetVarIs, TermIs, body_set_vars_are, body_terms_are, lit_set_vars_are, lit_terms_are}
+use Rattle.cyp_spec.proofs.ClauseTerms.{SetVarIs, TermIs, Within, body_set_vars_are, body_terms_are, lit_set_vars_are, lit_terms_are, set_var_more, term_more}
 use Rattle.cyp_spec.proofs.Distinct.{Distinct}
 use Rattle.cyp_spec.proofs.FormedInstances.{none_both, none_each}
 use Rattle.cyp_spec.proofs.FormedScope.{distinct_params}
@@ -106,3 +106,38 @@ module _ (qs : List PredTree) (ps : List ParamTree) (c : ClauseTree) (once : rep
   set_below v i =
       subst (λ (w : Var). is_below Set (count_sort Set sc) w ≡ true) (sym i.2)
       (var_below Set sc i.0.text (name_there (use_of Set i.0) i.1) (name_sort (use_of Set i.0) i.1))
+
+  -- ---- the clause
+
+  abbrev lits_of : List Term
+  lits_of = flat_map lit_terms (read_lits sc c.body)
+
+  guard_within : Within (kept_lit false c.guard) kept
+  guard_within u m = Among-left u (param_uses ps ++ kept_lit false c.guard) (kept_body qs c.body) (Among-right u (param_uses ps) (kept_lit false c.guard) m)
+
+  body_within : Within (kept_body qs c.body) kept
+  body_within u m = Among-right u (param_uses ps ++ kept_lit false c.guard) (kept_body qs c.body) m
+
+  clause_term_is : (t : Term) → Among t (clause_terms (read_clause qs ps c)) → TermIs sc kept t
+  clause_term_is t m = elim (Among-cases t (lit_terms (read_lit sc c.guard) ++ lits_of) (flat_map chunk_terms (read_chunks qs sc c.body)) m) [
+    | inr b ↦ term_more sc (kept_body qs c.body) kept body_within t (body_terms_are sc qs c.body t (inr b))
+    | inl a ↦ elim (Among-cases t (lit_terms (read_lit sc c.guard)) lits_of a) [
+      | inl g ↦ term_more sc (kept_lit false c.guard) kept guard_within t (lit_terms_are sc false c.guard t g)
+      | inr l ↦ term_more sc (kept_body qs c.body) kept body_within t (body_terms_are sc qs c.body t (inl l))
+    ]
+  ]
+
+  clause_set_var_is : (v : Var) → Among v (clause_set_vars (read_clause qs ps c)) → SetVarIs sc kept v
+  clause_set_var_is v m = elim (Among-cases v (lit_set_vars (read_lit sc c.guard) ++ flat_map lit_set_vars (read_lits sc c.body)) (flat_map chunk_set_vars (read_chunks qs sc c.body)) m) [
+    | inr b ↦ set_var_more sc (kept_body qs c.body) kept body_within v (body_set_vars_are sc qs c.body v (inr b))
+    | inl a ↦ elim (Among-cases v (lit_set_vars (read_lit sc c.guard)) (flat_map lit_set_vars (read_lits sc c.body)) a) [
+      | inl g ↦ set_var_more sc (kept_lit false c.guard) kept guard_within v (lit_set_vars_are sc false c.guard v g)
+      | inr l ↦ set_var_more sc (kept_body qs c.body) kept body_within v (body_set_vars_are sc qs c.body v (inl l))
+    ]
+  ]
+
+  pub closed : is_closed (read_clause qs ps c) ≡ true
+  closed = and_from _ _ (each_from (is_below Int (count_sort Int sc)) (flat_map term_vars (clause_terms (read_clause qs ps c))) ints) (each_from (is_below Set (count_sort Set sc)) (clause_set_vars (read_clause qs ps c)) (λ v m. set_below v (clause_set_var_is v m)))
+    where
+      ints : (v : Var) → Among v (flat_map term_vars (clause_terms (read_clause qs ps c))) → is_below Int (count_sort Int sc) v ≡ true
+      ints v m = let o = flat_out term_vars v (clause_terms (read_clause qs ps c)) m in term_below o.0 (clause_term_is o.0 o.1) v o.2

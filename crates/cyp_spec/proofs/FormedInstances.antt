@@ -83,7 +83,7 @@ length-mapped f (x ∷ xs) = ap suc (length-mapped f xs)
 inst_of : List PredTree → Scope → Ident → List ArgTree → InstOf
 inst_of qs sc i xs = record { pred = pred_place i.text qs; args = read_args sc (arg_sorts qs i xs) xs; card = None; tag = 0 }
 
-fits_named : (qs : List PredTree) (sc : Scope) (i : Ident) (xs : List ArgTree) (q : Option PredTree) → pred_named i.text qs ≡ q → instance_fault i xs q ≡ []
+pub fits_named : (qs : List PredTree) (sc : Scope) (i : Ident) (xs : List ArgTree) (q : Option PredTree) → pred_named i.text qs ≡ q → instance_fault i xs q ≡ []
     → fits_pred (record { pred = pred_place i.text qs; args = read_args sc (sorts_of (length xs) q) xs; card = None; tag = 0 }) (slice_get (map (read_pred qs) qs) (pred_place i.text qs)) ≡ true
 fits_named qs sc i xs None e n = absurd cc
 fits_named qs sc i xs (Some q) e n = rw (found i.text qs qs q e) (by_length (length q.params == length xs) refl n)

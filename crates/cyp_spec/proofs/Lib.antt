@@ -17,6 +17,7 @@ pub mod ReadGoals
 pub mod KnownSorts
 pub mod TextOrder
 pub mod ClauseTerms
+pub mod FirstNames
 pub mod FormedClauses
 pub mod Parser
 pub mod ExampleForms
