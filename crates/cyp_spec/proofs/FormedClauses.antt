@@ -54,7 +54,7 @@ var_below s sc a h e =
     let number : rank_of (sort_in sc a) sc a < count_sort s sc = subst (λ (r : Sort). rank_of r sc a < count_sort s sc) (sym e) (rank_below s sc a h e) in
     and_from _ _ ((Decides-sort_eq (sort_in sc a) s).1 e) (less_test (rank_of (sort_in sc a) sc a) (count_sort s sc) number)
 
-int_sorts : (x : IntTree) (u : Use) → Among u (int_uses x) → u.sort ≡ Int
+pub int_sorts : (x : IntTree) (u : Use) → Among u (int_uses x) → u.sort ≡ Int
 int_sorts (Num p n) u m = absurd m
 int_sorts (MinusNum p n) u m = absurd m
 int_sorts (Named i) u (inl e) = ap (λ (w : Use). w.sort) e
@@ -67,13 +67,13 @@ int_sorts (NameMinus i n) u (inr m) = absurd m
 int_sorts (NumPlus p n i) u (inr m) = absurd m
 
 module _ (qs : List PredTree) (ps : List ParamTree) (c : ClauseTree) (once : repeats [] (param_names ps) ≡ []) (none : clause_faults qs ps c ≡ []) where
-  abbrev sc : Scope
+  abbrev pub sc : Scope
   sc = clause_scope qs ps c
 
-  abbrev kept : List Use
+  abbrev pub kept : List Use
   kept = param_uses ps ++ kept_lit false c.guard ++ kept_body qs c.body
 
-  abbrev written : List Use
+  abbrev pub written : List Use
   written = lit_uses c.guard ++ body_uses qs c.body
 
   sorts_none : sort_faults (param_uses ps) written ≡ []
@@ -89,7 +89,7 @@ module _ (qs : List PredTree) (ps : List ParamTree) (c : ClauseTree) (once : rep
   ]
 
   -- each name of the clause is there, with the sort of its uses
-  name_sort : (u : Use) → Among u kept → sort_in sc u.name.text ≡ u.sort
+  pub name_sort : (u : Use) → Among u kept → sort_in sc u.name.text ≡ u.sort
   name_sort u m = scope_agrees (param_uses ps ++ written) kept all_agree u m
 
   name_there : (u : Use) → Among u kept → Has sc u.name.text
@@ -112,7 +112,7 @@ module _ (qs : List PredTree) (ps : List ParamTree) (c : ClauseTree) (once : rep
   abbrev lits_of : List Term
   lits_of = flat_map lit_terms (read_lits sc c.body)
 
-  guard_within : Within (kept_lit false c.guard) kept
+  pub guard_within : Within (kept_lit false c.guard) kept
   guard_within u m = Among-left u (param_uses ps ++ kept_lit false c.guard) (kept_body qs c.body) (Among-right u (param_uses ps) (kept_lit false c.guard) m)
 
   body_within : Within (kept_body qs c.body) kept

@@ -19,6 +19,7 @@ pub mod TextOrder
 pub mod ClauseTerms
 pub mod FirstNames
 pub mod FormedClauses
+pub mod FormedGuards
 pub mod Parser
 pub mod ExampleForms
 pub mod ExamplesRead
