@@ -1,5 +1,5 @@
 -- A scope begins with its parameters, where their names differ.
-use Rattle.std.proofs.Common.{List, [], append_assoc, append-nil, ap, arith, cond, false, filter, length, map, refl, subst, sym, true, ℕ, ◌+◌, ◌++◌, ◌≤◌, ◌∙◌, ◌∷◌, ◌≡◌, ◌≢◌, ◌⊎◌, inl, inr}
+use Rattle.std.proofs.Common.{List, [], append_assoc, append-nil, ap, arith, cond, false, filter, length, map, refl, subst, sym, true, ℕ, ◌+◌, ◌++◌, ◌≤◌, ◌∙◌, ◌∷◌, ◌≡◌, inl}
 use Rattle.std.specs.Prelude.{Bool}
 use Rattle.std.specs.List.{list_any}
 use Rattle.std.specs.Str.{bytes_eq}
@@ -9,7 +9,7 @@ use Rattle.cyp_term.specs.Terms.{sort_eq, with_all_new, with_new}
 use Rattle.cyp_term.specs.declared.term.Sort.{Sort}
 use Rattle.cyp_term.specs.declared.term.Sort.TheVariants.{Card, Int, Set}
 use Rattle.cyp_term.specs.declared.term.Var.{Var}
-use Rattle.cyp_term.proofs.Lists.{Among, Among-right, some_out}
+use Rattle.cyp_term.proofs.Lists.{some_out}
 use Rattle.cyp_spec.specs.ReadTerms.{Scope, rank_of, sort_in, var_named}
 use Rattle.cyp_spec.specs.Specifications.{count_sort}
 use Rattle.cyp_spec.specs.Trees.{ParamTree}

@@ -1,34 +1,29 @@
 -- Clauses of a text without faults of names and sorts: their variables are counted, and guards speak of parameters.
-use Rattle.std.proofs.Common.{List, None, Option, Some, [], ap, append_assoc, arith, cond, false, filter, flat_map, inl, inr, length, map, not, refl, subst, suc, sym, true, ℕ, ◌&&◌, ◌+◌, ◌++◌, ◌<◌, ◌≤◌, ◌∙◌, ◌∷◌, ◌≡◌, ◌≢◌, ◌⊎◌}
-use Rattle.std.specs.Prelude.{Bool, nat_le, nat_lt}
-use Rattle.std.specs.List.{list_all, list_any}
+use Rattle.std.proofs.Common.{List, [], ap, arith, cond, false, filter, flat_map, inl, inr, length, refl, subst, suc, sym, true, ℕ, ◌+◌, ◌++◌, ◌<◌, ◌∙◌, ◌∷◌, ◌≡◌}
+use Rattle.std.specs.Prelude.{Bool, nat_lt}
 use Rattle.std.specs.Str.{bytes_eq}
 use Rattle.std.proofs.lemmas.Bool.{and_from, le-leb}
-use Rattle.std.proofs.lemmas.Slice.Eq.{bytes_eq-Decides}
-use Rattle.cyp_grammar.specs.Spelling.{Ident}
-use Rattle.cyp_heap.specs.PredsFormed.{clause_set_vars, clause_terms, count_of, is_below, is_closed, lit_terms, chunk_terms, chunk_set_vars}
-use Rattle.cyp_term.specs.Integers.{is_int_lit}
+use Rattle.cyp_heap.specs.PredsFormed.{clause_set_vars, clause_terms, is_below, is_closed, lit_terms, chunk_terms, chunk_set_vars}
 use Rattle.cyp_term.specs.Regions.{lit_set_vars}
-use Rattle.cyp_term.specs.Terms.{lit_vars, sort_eq, term_vars, without_repeats}
+use Rattle.cyp_term.specs.Terms.{sort_eq, term_vars}
 use Rattle.cyp_term.specs.declared.term.Sort.{Sort}
 use Rattle.cyp_term.specs.declared.term.Sort.TheVariants.{Int, Set}
 use Rattle.cyp_term.specs.declared.term.Term.{Term}
 use Rattle.cyp_term.specs.declared.term.Var.{Var}
 use Rattle.cyp_term.proofs.Equality.{Decides-sort_eq}
-use Rattle.cyp_term.proofs.Lists.{Among, Among-cases, Among-left, Among-right, each_from, flat_out, some_out}
+use Rattle.cyp_term.proofs.Lists.{Among, Among-cases, Among-left, Among-right, each_from, flat_out}
 use Rattle.cyp_spec.specs.Bodies.{body_uses, kept_body, kept_lit}
-use Rattle.cyp_spec.specs.NameFaults.{clause_faults, guard_faults, chunk_faults, param_names, repeats, sort_faults, unbound_fault}
-use Rattle.cyp_spec.specs.ReadTerms.{Scope, rank_of, read_chunks, read_int, read_lit, read_lits, sort_in, use_var, var_named}
+use Rattle.cyp_spec.specs.NameFaults.{clause_faults, guard_faults, chunk_faults, param_names, repeats, sort_faults}
+use Rattle.cyp_spec.specs.ReadTerms.{Scope, rank_of, read_chunks, read_lit, read_lits, sort_in, var_named}
 use Rattle.cyp_spec.specs.Specifications.{clause_scope, count_sort, read_clause}
 use Rattle.cyp_spec.specs.Trees.{ClauseTree, IntTree, MinusNum, NameMinus, NamePlus, Named, Num, NumPlus, ParamTree, PredTree}
-use Rattle.cyp_spec.specs.Uses.{Use, int_uses, lit_uses, param_sort, param_uses, same_name, use_of}
+use Rattle.cyp_spec.specs.Uses.{Use, int_uses, lit_uses, param_uses, use_of}
 use Rattle.cyp_spec.proofs.ClauseTerms.{SetVarIs, TermIs, Within, body_set_vars_are, body_terms_are, lit_set_vars_are, lit_terms_are, set_var_more, term_more}
-use Rattle.cyp_spec.proofs.Distinct.{Distinct}
-use Rattle.cyp_spec.proofs.FormedInstances.{none_both, none_each}
+use Rattle.cyp_spec.proofs.FormedInstances.{none_both}
 use Rattle.cyp_spec.proofs.FormedScope.{distinct_params}
 use Rattle.cyp_spec.proofs.KnownSorts.{Agree, distinct_agree, scope_agrees, uses_agree}
 use Rattle.cyp_spec.proofs.Names.{int_comes}
-use Rattle.cyp_spec.proofs.Scopes.{Grows, Has, grow, has_later}
+use Rattle.cyp_spec.proofs.Scopes.{Has, grow, has_later}
 use Rattle.cyp_spec.proofs.TextOrder.{body_in, lit_in}
 
 -- ---- numbers of variables

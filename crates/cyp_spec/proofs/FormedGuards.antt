@@ -1,12 +1,12 @@
 -- Guards of a text without faults of names and sorts are literals of integers over parameters.
-use Rattle.std.proofs.Common.{List, Some, [], ap, append_assoc, arith, cond, false, flat_map, inl, inr, map, not, refl, subst, sym, true, ℕ, ◌&&◌, ◌++◌, ◌≤◌, ◌∙◌, ◌∷◌, ◌≡◌, ◌≢◌, ◌⊎◌}
+use Rattle.std.proofs.Common.{List, [], ap, append_assoc, arith, false, flat_map, inl, inr, map, refl, subst, sym, true, ℕ, ◌&&◌, ◌++◌, ◌≤◌, ◌∙◌, ◌∷◌, ◌≡◌}
 use Rattle.std.specs.Prelude.{Bool, nat_le}
 use Rattle.std.specs.List.{list_all, list_any}
 use Rattle.std.specs.Str.{bytes_eq}
 use Rattle.std.proofs.lemmas.Bool.{and_from, le-leb}
 use Rattle.std.proofs.lemmas.Slice.Eq.{bytes_eq-Decides}
 use Rattle.cyp_grammar.specs.Spelling.{Ident}
-use Rattle.cyp_heap.specs.PredsFormed.{count_of, counts_params, is_below, is_guard, lit_terms}
+use Rattle.cyp_heap.specs.PredsFormed.{count_of, is_below, lit_terms}
 use Rattle.cyp_term.specs.Integers.{is_int_lit}
 use Rattle.cyp_term.specs.Terms.{lit_vars, negated, term_vars, with_all_new}
 use Rattle.cyp_term.specs.declared.lit.Lit.{Lit}
@@ -15,16 +15,16 @@ use Rattle.cyp_term.specs.declared.term.Sort.{Sort}
 use Rattle.cyp_term.specs.declared.term.Sort.TheVariants.{Int, Set}
 use Rattle.cyp_term.specs.declared.term.Term.{Term}
 use Rattle.cyp_term.specs.declared.term.Var.{Var}
-use Rattle.cyp_term.proofs.Lists.{Among, Among-cases, Among-left, Among-right, each_from, map_from, some_out}
+use Rattle.cyp_term.proofs.Lists.{Among, Among-cases, each_from, some_out}
 use Rattle.cyp_spec.specs.Bodies.{kept_body, kept_lit}
 use Rattle.cyp_spec.specs.NameFaults.{chunk_faults, clause_faults, guard_faults, is_set_literal, param_names, repeats, sort_faults, unbound_fault}
 use Rattle.cyp_spec.specs.ReadTerms.{Scope, compared, read_int, read_lit, sort_in, use_var, var_named}
-use Rattle.cyp_spec.specs.Specifications.{clause_scope, count_sort, read_clause, read_pred}
+use Rattle.cyp_spec.specs.Specifications.{clause_scope, count_sort}
 use Rattle.cyp_spec.specs.Trees.{ClauseTree, Comparing, Comparison, Inside, IsAbove, IsAtLeast, IsAtMost, IsBelow, IsEqual, IsUnequal, LitTree, Negation, ParamTree, PredTree, SameSets, SubSets}
-use Rattle.cyp_spec.specs.Uses.{Use, int_uses, lit_uses, param_sort, param_uses, same_name}
+use Rattle.cyp_spec.specs.Uses.{Use, lit_uses, param_sort, param_uses, same_name}
 use Rattle.cyp_spec.proofs.ClauseTerms.{TermIs, lit_terms_are}
 use Rattle.cyp_spec.proofs.FirstNames.{begins_with, count_le, count_params, var_has}
-use Rattle.cyp_spec.proofs.FormedClauses.{guard_within, int_sorts, kept, name_sort, sc, var_below, written}
+use Rattle.cyp_spec.proofs.FormedClauses.{guard_within, int_sorts, name_sort, var_below, written}
 use Rattle.cyp_spec.proofs.FormedInstances.{none_both, none_each, test_true}
 use Rattle.cyp_spec.proofs.FormedScope.{distinct_params, sort_has, test_false}
 use Rattle.cyp_spec.proofs.Names.{int_comes}
@@ -93,7 +93,7 @@ module _ (qs : List PredTree) (ps : List ParamTree) (c : ClauseTree) (once : rep
   bound u m =
       let is_named : Ident → Bool = λ (i : Ident). bytes_eq i.text u.name.text in
       let here : list_any is_named (param_names ps) ≡ true =
-          test_true (list_any is_named (param_names ps)) _ [] (none_each (unbound_fault ps) (lit_uses c.guard) (none_both _ (flat_map (unbound_fault ps) (lit_uses c.guard)) guard_none).1 u m) in
+      test_true (list_any is_named (param_names ps)) _ [] (none_each (unbound_fault ps) (lit_uses c.guard) (none_both _ (flat_map (unbound_fault ps) (lit_uses c.guard)) guard_none).1 u m) in
       let i = some_out is_named (param_names ps) here in
       by_param i.0 i.1 ((bytes_eq-Decides i.0.text u.name.text).0 i.2)
     where
@@ -118,7 +118,7 @@ module _ (qs : List PredTree) (ps : List ParamTree) (c : ClauseTree) (once : rep
           let there : Has pars a = bound u (lit_in u false c.guard k) in
           let more : Scope = (grow pars others).more in
           let sorts : sort_in pars a ≡ Int =
-              sym (sort_has pars more a there) ∙ ap (λ (us : Scope). sort_in us a) (sym scope_is) ∙ name_sort qs ps c once none u (guard_within qs ps c once none u k) ∙ s in
+          sym (sort_has pars more a there) ∙ ap (λ (us : Scope). sort_in us a) (sym scope_is) ∙ name_sort qs ps c once none u (guard_within qs ps c once none u k) ∙ s in
           let same : v ≡ var_named pars a = e ∙ ap (λ (us : Scope). var_named us a) scope_is ∙ var_has pars more a there in
           let below : is_below Int (count_sort Int pars) (var_named pars a) ≡ true = var_below Int pars a there sorts in
           subst (λ (n : ℕ). is_below Int n v ≡ true) (sym (count_params Int ps)) (subst (λ (w : Var). is_below Int (count_sort Int pars) w ≡ true) (sym same) below)

@@ -1,5 +1,5 @@
 -- Where no use of a name has a wrong sort, each use has the sort of its name.
-use Rattle.std.proofs.Common.{List, None, Option, Some, [], append_assoc, ap, cond, false, inl, inr, refl, subst, sym, true, ℕ, ◌++◌, ◌∙◌, ◌∷◌, ◌≡◌, ◌≢◌, ◌⊎◌}
+use Rattle.std.proofs.Common.{List, None, Option, Some, [], append_assoc, ap, cond, false, inl, inr, refl, subst, sym, true, ℕ, ◌++◌, ◌∙◌, ◌∷◌, ◌≡◌, ◌≢◌}
 use Rattle.std.specs.Prelude.{Bool}
 use Rattle.std.specs.Str.{bytes_eq}
 use Rattle.std.proofs.lemmas.Slice.Eq.{bytes_eq-Decides}
@@ -7,8 +7,8 @@ use Rattle.cyp_term.specs.Terms.{sort_eq, without_repeats}
 use Rattle.cyp_term.specs.declared.term.Sort.{Sort}
 use Rattle.cyp_term.proofs.Equality.{Decides-sort_eq}
 use Rattle.cyp_term.proofs.Lists.{Among}
-use Rattle.cyp_spec.specs.NameFaults.{fault_at, known_sort, sort_fault, sort_faults}
-use Rattle.cyp_spec.specs.ReadTerms.{Scope, sort_in}
+use Rattle.cyp_spec.specs.NameFaults.{known_sort, sort_fault, sort_faults}
+use Rattle.cyp_spec.specs.ReadTerms.{sort_in}
 use Rattle.cyp_spec.specs.Uses.{Use, same_name}
 use Rattle.cyp_spec.proofs.Distinct.{Distinct}
 use Rattle.cyp_spec.proofs.FormedInstances.{none_both, test_true}

@@ -13,13 +13,15 @@ pub mod FormedCards
 pub mod FormedInstances
 pub mod FormedScope
 pub mod FormedGoals
-pub mod ReadGoals
+pub mod ReadTrees
 pub mod KnownSorts
 pub mod TextOrder
 pub mod ClauseTerms
 pub mod FirstNames
 pub mod FormedClauses
 pub mod FormedGuards
+pub mod FormedOwners
+pub mod FormedPreds
 pub mod Parser
 pub mod ExampleForms
 pub mod ExamplesRead

@@ -1,10 +1,10 @@
 -- What is kept has no other names than the text.
-use Rattle.std.proofs.Common.{List, None, Option, Some, [], filter, flat_map, false, inl, inr, length, not, true, ◌++◌, ◌∷◌, ◌≡◌, ◌⊎◌}
+use Rattle.std.proofs.Common.{List, None, Option, Some, [], filter, flat_map, false, inl, inr, not, true, ◌++◌, ◌∷◌}
 use Rattle.std.specs.Prelude.{Bool, cond}
 use Rattle.cyp_term.specs.declared.term.Sort.{Sort}
 use Rattle.cyp_term.proofs.Lists.{Among, Among-cases, Among-left, Among-right, filter_out, flat_in, flat_out}
 use Rattle.cyp_spec.specs.Bodies.{body_lits, body_uses, in_kinds, is_name, is_turned, kept_body, kept_lit, kept_parts, kept_set}
-use Rattle.cyp_spec.specs.Trees.{ArgTree, BlockOf, BodyTree, Braces, BracesArg, ChunkTree, Comparing, Inside, InstanceOf, LitTree, MinusNum, NameMinus, NamePlus, Named, NamedCell, Negation, Num, NumPlus, PartName, PartTree, PredTree, SameSets, SetTree, SubSets, TermArg, TermCell, UnionArg}
+use Rattle.cyp_spec.specs.Trees.{ArgTree, BlockOf, BodyTree, Braces, BracesArg, ChunkTree, Comparing, Inside, InstanceOf, LitTree, Named, NamedCell, Negation, PartName, PartTree, PredTree, SameSets, SetTree, SubSets, TermArg, TermCell, UnionArg}
 use Rattle.cyp_spec.specs.Uses.{Use, arg_sorts, arg_uses, args_uses, chunk_uses, int_uses, lit_uses, part_uses, parts_uses, set_parts, set_uses}
 use Rattle.cyp_spec.proofs.FormedInstances.{kinds_among}
 

@@ -3,4 +3,4 @@
 
 mod laws;
 
-pub use laws::goal_that_is_read_is_formed;
+pub use laws::{goal_that_is_read_is_formed, predicates_that_are_read_are_formed};
