@@ -1,7 +1,8 @@
 -- Worked rows of names.
 use Rattle.std.proofs.Common.{◌≡◌, true, false, refl}
 use Rattle.std.specs.Prelude.{codes}
-use Rattle.cyp_kernel.specs.Compile.{is_variable_name, main_name}
+use Rattle.cyp_kernel.specs.Compile.{main_name}
+use Rattle.cyp_prog.specs.Lexemes.{is_variable_name}
 
 least_variable : is_variable_name (codes "v1") ≡ true
 least_variable = refl

@@ -1,6 +1,7 @@
 ghost use Rattle.std.specs.Prelude.{◌≡◌, ◌++◌, ◌≤◌, OnOk};
 ghost use Rattle.cyp_cell_print.specs.ShortNumbers.{is_short_from, with_digit};
-ghost use Rattle.cyp_kernel.specs.Compile.{is_variable_name, main_name};
+ghost use Rattle.cyp_kernel.specs.Compile.{main_name};
+ghost use Rattle.cyp_prog.specs.Lexemes.{is_variable_name};
 
 use crate::bytes::add;
 use cyp_term::NoMemory;

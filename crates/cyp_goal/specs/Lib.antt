@@ -4,3 +4,5 @@ pub mod Pruning
 pub mod Numbering
 pub mod Normal
 pub mod Facts
+pub mod Raw
+pub mod Laws

@@ -13,3 +13,5 @@ pub mod Seconds
 pub mod Enclosures
 pub mod Repeats
 pub mod Wholes
+pub mod Behinds
+pub mod Between

@@ -1,11 +1,11 @@
 -- The program that a derivation stands for.
-use Rattle.std.specs.Prelude.{[], ◌&&◌, ◌*◌, ◌+◌, ◌++◌, ◌-◌, ◌==◌, Bool, List, None, Option, Some, cond, decimal, false, length, map, nat_le, not, suc, true, zip, ℕ, ◌∷◌}
-use Rattle.std.specs.List.{list_all}
+use Rattle.std.specs.Prelude.{[], ◌&&◌, ◌+◌, ◌++◌, Bool, List, None, Option, Some, cond, decimal, false, length, map, not, suc, true, zip, ℕ, ◌∷◌}
 use Rattle.cyp_goal.specs.Normal.{Renaming}
 use Rattle.cyp_heap.specs.declared.goal.Node.{Node}
 use Rattle.cyp_kernel.specs.Companions.{Proof, Proofs, called_count, is_called}
 use Rattle.cyp_kernel.specs.Naming.{Names, expr_of, name_of, param_names}
 use Rattle.cyp_kernel.specs.Statements.{rule_body}
+use Rattle.cyp_prog.specs.Lexemes.{is_variable_name}
 use Rattle.cyp_prog.specs.Programs.{Body, End, Invoking, Procedure, Then}
 use Rattle.cyp_tree.specs.Derivations.{Derived, More, NoMore}
 use Rattle.cyp_step.specs.Changes.{new_int}
@@ -97,22 +97,7 @@ abbrev mutual
   procedures_in main next procs NoMore = []
   procedures_in main next procs (More d ds) = procedures main next procs d ++ procedures_in main (next + called_count d) procs ds
 
--- ---- names that are variables
-
--- the byte is a decimal digit, `0` to `9`
-abbrev pub is_digit : ℕ → Bool
-is_digit c = nat_le 48 c && nat_le c 57
-
--- the number that these decimal digits spell when they are written behind the digits of `n`
-abbrev pub number_of : ℕ → List ℕ → ℕ
-number_of n [] = n
-number_of n (c ∷ cs) = number_of (10 * n + (c - 48)) cs
-
--- `v` and a number from 1 to 65535 without leading zeros
-abbrev pub is_variable_name : List ℕ → Bool
-is_variable_name (v ∷ d ∷ cs) =
-    (v == 118) && list_all is_digit (d ∷ cs) && not (d == 48) && nat_le (number_of 0 (d ∷ cs)) 65535
-is_variable_name _ = false
+-- ---- the whole program
 
 -- the main procedure's name: the given one, with `_0` behind it where it would read as a variable
 abbrev pub main_name : List ℕ → List ℕ

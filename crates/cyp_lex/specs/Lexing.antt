@@ -1,5 +1,5 @@
 -- Which tokens a text has, and its first fault.
-use Rattle.std.specs.Prelude.{◌≡◌, ◌≤◌, ◌<◌, ℕ, zero, suc, ◌+◌, ◌-◌, ◌*◌, ◌==◌, Bool, true, false, cond, not, ◌&&◌, ◌||◌, List, [], ◌∷◌, length, take, drop, nat_le, Option, Some, None, Result, Ok, Err, codes}
+use Rattle.std.specs.Prelude.{◌≡◌, ◌≤◌, ◌<◌, ℕ, zero, suc, ◌+◌, ◌-◌, ◌*◌, ◌==◌, Bool, true, false, cond, not, ◌&&◌, ◌||◌, List, [], ◌∷◌, ◌++◌, length, take, drop, nat_le, Option, Some, None, Result, Ok, Err, codes}
 use Rattle.std.specs.List.{prefix_len}
 use Rattle.std.specs.Str.{bytes_eq}
 use Rattle.cyp_term.specs.declared.fail.Fail.{Fail}
@@ -7,7 +7,7 @@ use Rattle.cyp_term.specs.declared.fail.Fail.TheVariants.{Named, NoMemory}
 use Rattle.cyp_lex.specs.declared.token.Word.{Word}
 use Rattle.cyp_lex.specs.declared.token.Word.TheVariants.{Predicate, Void, Loc, Int, Set, Emp, True, Not, In, If, Else, Let, Malloc, Free, Error}
 use Rattle.cyp_lex.specs.declared.token.Sign.{Sign}
-use Rattle.cyp_lex.specs.declared.token.Sign.TheVariants.{PointsTo, Subset, TwoStars, TwoPluses, Implies, Equal, Unequal, AtMost, AtLeast, SlashAnd, AndAnd, Same, Less, Greater, LeftParen, RightParen, LeftBrace, RightBrace, LeftBracket, RightBracket, Comma, Semicolon, Bar, Plus, Minus}
+use Rattle.cyp_lex.specs.declared.token.Sign.TheVariants.{PointsTo, Subset, TwoStars, TwoPluses, Implies, Equal, Unequal, AtMost, AtLeast, SlashAnd, AndAnd, Same, Less, Greater, LeftParen, RightParen, LeftBrace, RightBrace, LeftBracket, RightBracket, Comma, Semicolon, Bar, Plus, Minus, Star, Assign}
 use Rattle.cyp_lex.specs.declared.token.TokenKind.{TokenKind}
 use Rattle.cyp_lex.specs.declared.token.TokenKind.TheVariants as kinds
 use Rattle.cyp_lex.specs.declared.token.Token.{Token}
@@ -21,11 +21,24 @@ use Rattle.cyp_lex.specs.Spelled.{word_text, sign_text}
 abbrev pub words : List Word
 words = Predicate ∷ Void ∷ Loc ∷ Int ∷ Set ∷ Emp ∷ True ∷ Not ∷ In ∷ If ∷ Else ∷ Let ∷ Malloc ∷ Free ∷ Error ∷ []
 
--- the longest first
+-- the symbols of a specification, the longest first
 abbrev pub signs : List Sign
 signs =
     PointsTo ∷ Subset ∷ TwoStars ∷ TwoPluses ∷ Implies ∷ Equal ∷ Unequal ∷ AtMost ∷ AtLeast ∷ SlashAnd ∷ AndAnd ∷ Same ∷ Less ∷ Greater
     ∷ LeftParen ∷ RightParen ∷ LeftBrace ∷ RightBrace ∷ LeftBracket ∷ RightBracket ∷ Comma ∷ Semicolon ∷ Bar ∷ Plus ∷ Minus ∷ []
+
+-- the symbols that a text may have, the longest first, and the greatest number that it may write
+pub record Lexicon : Type 0 where
+  pub signs : List Sign
+  pub greatest : ℕ
+
+-- specifications write numbers up to 2 ^ 31
+abbrev pub specification_lexicon : Lexicon
+specification_lexicon = record { signs = signs; greatest = 2147483648 }
+
+-- programs have `*` and `=` besides, and write numbers up to 2 ^ 32
+abbrev pub program_lexicon : Lexicon
+program_lexicon = record { signs = signs ++ Star ∷ Assign ∷ []; greatest = 4294967296 }
 
 -- the byte is one of `0` to `9`
 abbrev pub is_digit : ℕ → Bool
@@ -76,18 +89,14 @@ unfoldable pub sign_at : List Sign → List ℕ → Option Sign
 sign_at [] bytes = None
 sign_at (s ∷ ss) bytes = cond (stands s bytes) (Some s) (sign_at ss bytes)
 
--- the greatest number that a text may write, 2 ^ 31
-abbrev pub greatest : ℕ
-greatest = 2147483648
-
 -- the decimal number whose leading digits have the value `n`, and whose other digits are these bytes
 abbrev pub decimal_value : ℕ → List ℕ → ℕ
 decimal_value n [] = n
 decimal_value n (c ∷ cs) = decimal_value (10 * n + (c - 48)) cs
 
--- the number, or nothing where it is too great for a text
-abbrev pub number_result : ℕ → Option ℕ
-number_result n = cond (nat_le n greatest) (Some n) None
+-- the number, or nothing where it is above the greatest
+abbrev pub number_result : ℕ → ℕ → Option ℕ
+number_result greatest n = cond (nat_le n greatest) (Some n) None
 
 -- the token of a number with so many digits behind its first, or the fault that it is too great
 abbrev pub number_piece : Option ℕ → ℕ → Piece
@@ -104,13 +113,13 @@ abbrev pub run_of : (ℕ → Bool) → ℕ → List ℕ → List ℕ
 run_of test b bs = b ∷ take (prefix_len test bs) bs
 
 -- what begins at byte `b`, behind which `bs` stand: a blank, comment, word, name, number, symbol or fault
-unfoldable pub piece_at : ℕ → List ℕ → Piece
-piece_at b bs =
+unfoldable pub piece_at : Lexicon → ℕ → List ℕ → Piece
+piece_at lexicon b bs =
     cond (is_blank b) (Blank 0)
     (cond (begins_with (b ∷ bs) (codes "//")) (Blank (prefix_len is_no_line_end bs))
     (cond (is_name_start b) (Begun (name_kind words (run_of is_name_byte b bs)) (prefix_len is_name_byte bs))
-    (cond (is_digit b) (number_piece (number_result (decimal_value 0 (run_of is_digit b bs))) (prefix_len is_digit bs))
-    (sign_piece (sign_at signs (b ∷ bs))))))
+    (cond (is_digit b) (number_piece (number_result lexicon.greatest (decimal_value 0 (run_of is_digit b bs))) (prefix_len is_digit bs))
+    (sign_piece (sign_at lexicon.signs (b ∷ bs))))))
 
 -- the token before those that were read after it; a fault stays the answer
 abbrev pub with_token : Token → Result (List Token) Fault → Result (List Token) Fault
@@ -118,20 +127,24 @@ with_token t (Ok ts) = Ok (t ∷ ts)
 with_token t (Err f) = Err f
 
 -- the tokens from place p on, or the first fault. So many bytes are left of what was begun
-unfoldable pub lexed : ℕ → ℕ → List ℕ → Result (List Token) Fault
-lexed inside p [] = Ok []
-lexed inside p (b ∷ bs) = elim inside [
-  | suc k ↦ lexed k (suc p) bs
-  | zero ↦ elim (piece_at b bs) [
-    | Blank k ↦ lexed k (suc p) bs
-    | Begun kind k ↦ with_token (record { kind = kind; start = p; end = p + suc k }) (lexed k (suc p) bs)
+unfoldable pub lexed : Lexicon → ℕ → ℕ → List ℕ → Result (List Token) Fault
+lexed lexicon inside p [] = Ok []
+lexed lexicon inside p (b ∷ bs) = elim inside [
+  | suc k ↦ lexed lexicon k (suc p) bs
+  | zero ↦ elim (piece_at lexicon b bs) [
+    | Blank k ↦ lexed lexicon k (suc p) bs
+    | Begun kind k ↦ with_token (record { kind = kind; start = p; end = p + suc k }) (lexed lexicon k (suc p) bs)
     | Bad kind ↦ Err (record { kind = kind; place = p })
   ]
 ]
 
--- all tokens of a text in their order, or its first fault
+-- all tokens of a specification in their order, or its first fault
 abbrev pub tokens_of : List ℕ → Result (List Token) Fault
-tokens_of bytes = lexed 0 0 bytes
+tokens_of bytes = lexed specification_lexicon 0 0 bytes
+
+-- all tokens of a program in their order, or its first fault
+abbrev pub program_tokens_of : List ℕ → Result (List Token) Fault
+program_tokens_of bytes = lexed program_lexicon 0 0 bytes
 
 -- a piece is within the bytes
 abbrev pub IsWithin : Piece → List ℕ → Type 0

@@ -1,7 +1,7 @@
 ghost use Rattle.std.specs.Prelude.{◌≡◌, ℕ, ◌≤◌, List, ◌∷◌, length, IfOk, IfSome, IsTrue};
 ghost use Rattle.std.specs.List.{prefix_len};
 ghost use Rattle.cyp_lex.specs.Spelled.{sign_text};
-ghost use Rattle.cyp_lex.specs.Lexing.{is_digit, is_name_start, is_name_byte, is_blank, is_no_line_end, name_kind, ends_in_letter, goes_on, stands, sign_at, decimal_value, number_result, piece_at, tokens_of, LieInOrder, IsWithin, Gives};
+ghost use Rattle.cyp_lex.specs.Lexing.{is_digit, is_name_start, is_name_byte, is_blank, is_no_line_end, name_kind, ends_in_letter, goes_on, stands, sign_at, decimal_value, number_result, specification_lexicon, piece_at, tokens_of, LieInOrder, IsWithin, Gives};
 
 use crate::fault::{Fault, FaultKind};
 use crate::token::{Sign, Token, TokenKind, Word};
@@ -188,7 +188,7 @@ fn find_sign(among: &[Sign], text: &[u8]) -> Option<Sign>
 
 /// The number that the digits write, if it is not too great.
 fn number(digits: &[u8]) -> Option<u64>
-    ensures { result ≡ number_result (decimal_value 0 digits.now) }
+    ensures { result ≡ number_result specification_lexicon.greatest (decimal_value 0 digits.now) }
 {
     let mut value: u64 = 0;
     for d in digits {
@@ -204,7 +204,7 @@ fn number(digits: &[u8]) -> Option<u64>
 #[tactic(auto, unfolding(crate::specs::Lexing::piece_at))]
 fn first_piece(first: u8, after: &[u8], text: &[u8]) -> Piece
     requires { text.now ≡ first ∷ after.now }
-    ensures value { result ≡ piece_at first after.now }
+    ensures value { result ≡ piece_at specification_lexicon first after.now }
     ensures within { IsWithin result after.now }
 {
     if is_blank_byte(first) {

@@ -54,7 +54,7 @@ pub enum Sign {
     Assign,
 }
 
-/// A name's text is that from `start` to `end`. A number is at most 2147483648.
+/// A name's text is that from `start` to `end`. A number is at most 2147483648, or 4294967296 in a program.
 #[derive(Clone, Copy, Debug, PartialEq, Eq, Hash)]
 pub enum TokenKind {
     Name,

@@ -2,5 +2,8 @@ pub mod Examples
 pub mod FreeBases
 pub mod Going
 pub mod Halted
+pub mod InputExact
+pub mod InputExamples
+pub mod Inputs
 pub mod Least
 pub mod Options

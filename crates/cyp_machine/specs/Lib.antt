@@ -1,6 +1,8 @@
 pub mod Closed
 pub mod Faults
 pub mod Laws
+pub mod RunInput
+pub mod RunInputLaws
 pub mod Runs
 pub mod States
 pub mod Steps

@@ -1,2 +1,12 @@
 pub mod Programs
 pub mod ProgramText
+pub mod Lexemes
+pub mod Trees
+pub mod Grammar
+pub mod TreePrograms
+pub mod Faults
+pub mod Bindings
+pub mod Nesting
+pub mod Passes
+pub mod Reading
+pub mod Laws

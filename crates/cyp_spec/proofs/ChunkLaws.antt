@@ -14,6 +14,7 @@ use Rattle.cyp_grammar.proofs.Lists.{listed_spelling}
 use Rattle.cyp_grammar.proofs.Tellers.{ident_reads, placed_mark, placed_number_reads, sign_listing_reads, sign_mark, sign_reads, word_mark, word_reads}
 use Rattle.cyp_grammar.proofs.Firsts.{NameBegins, first_reads, name_both, name_ident, name_left, name_listed, name_mapped, name_right}
 use Rattle.cyp_grammar.proofs.Enclosures.{enclosed_reads, enclosed_spelling, name_enclosed}
+use Rattle.cyp_grammar.proofs.Behinds.{NameLeads, leads_either, leads_listed, leads_mapped, leads_name, leads_no_name}
 use Rattle.cyp_spec.specs.Trees.{ArgTree, BlockOf, ChunkTree, InstanceOf, IntTree, NamedCell, TermCell}
 use Rattle.cyp_spec.specs.Grammar.{arg_spelling, chunk_spelling, heap_spelling, int_spelling}
 use Rattle.cyp_spec.specs.ChunkReaders.{AnyChunk, BlockChunk, ChunkTail, TermChunk, args_at, begins_arg, begins_chunk, begins_heap, begins_shape, block_chunk, chunk_at, chunk_tail, chunk_tree, chunks_at, heap_at, heap_tree, is_chunk_tail, shape_chunk, term_chunk}
@@ -150,6 +151,13 @@ chunk_reads n = mapped_reads chunk_tree chunk_parts there again same (first_read
 pub name_chunk_begins : NameBegins ChunkTree chunk_spelling
 name_chunk_begins = name_mapped chunk_tree chunk_parts there same name_any
 
+shape_leads : NameLeads (TermChunk ⊎ BlockChunk) (spell_either term_spelling block_spelling) is_chunk_tail
+shape_leads = leads_no_name is_chunk_tail (shape_reads 0) (λ x. refl)
+
+-- behind a name that begins a chunk stands `:->` or a parenthesis
+chunk_leads : NameLeads ChunkTree chunk_spelling is_chunk_tail
+chunk_leads = leads_mapped chunk_parts same (leads_either (leads_name (tail_reads 0)) shape_leads)
+
 -- ---- heaps
 
 -- what would make a heap longer
@@ -210,3 +218,9 @@ heap_reads n = mapped_reads heap_tree heap_parts heap_there heap_again heap_same
 
 pub name_heap : NameBegins (List ChunkTree) heap_spelling
 name_heap = name_mapped heap_tree heap_parts heap_there heap_same name_either
+
+emp_leads : NameLeads (Unit {0}) (one (word_mark Emp)) is_chunk_tail
+emp_leads = leads_no_name is_chunk_tail (word_reads {ends = none} {n = 0} Emp) (λ x. refl)
+
+pub heap_leads : NameLeads (List ChunkTree) heap_spelling is_chunk_tail
+heap_leads = leads_mapped heap_parts heap_same (leads_either emp_leads (leads_listed (Symbol TwoStars) chunk_leads))

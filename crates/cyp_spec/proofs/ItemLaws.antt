@@ -13,12 +13,13 @@ use Rattle.cyp_grammar.proofs.Choices.{spell_either}
 use Rattle.cyp_grammar.proofs.Tellers.{Tells, plainly_reads, sign_mark, sign_reads, word_mark, word_reads}
 use Rattle.cyp_grammar.proofs.Firsts.{NameBegins, first_reads, name_mapped, name_right}
 use Rattle.cyp_grammar.proofs.Repeats.{repeated_spelling, repeating_reads}
+use Rattle.cyp_grammar.proofs.Behinds.{NameLeads, leads_both, leads_either, leads_mapped, leads_no_name}
 use Rattle.cyp_spec.specs.Trees.{Ampersands, Conjunction, ItemTree, LitItem, LitTree, Slashes, TrueItem}
 use Rattle.cyp_spec.specs.Grammar.{conjunction_sign, item_spelling, later_item, lit_spelling}
 use Rattle.cyp_spec.specs.LitReaders.{begins_lit}
 use Rattle.cyp_spec.specs.BodyReaders.{SomeItems, begins_item, conjunction_of, is_conjunction, item_at, item_tree, items_at, later_item_at}
-use Rattle.cyp_spec.proofs.LitLaws.{lit_ends}
-use Rattle.cyp_spec.proofs.NotLaws.{lit_reads, name_lit}
+use Rattle.cyp_spec.proofs.LitLaws.{is_lit_tail, lit_ends}
+use Rattle.cyp_spec.proofs.NotLaws.{lit_leads, lit_reads, name_lit}
 
 true_lit : Apart (is_word True) begins_lit
 true_lit (Reserved True) e = refl
@@ -92,3 +93,9 @@ items_spelling = spell_both item_spelling (repeated_spelling later_item (one (si
 
 pub items_reads : (n : ℕ) → Reads n SomeItems items_spelling begins_item none items_at
 items_reads n = both_reads (item_reads n) (repeating_reads NoName conjunction_semicolon item_ended (λ x. refl) later_reads (λ m. sign_reads Semicolon) n) item_ended
+
+true_leads : NameLeads (Unit {0}) (one (word_mark True)) is_lit_tail
+true_leads = leads_no_name is_lit_tail (word_reads {ends = none} {n = 0} True) (λ x. refl)
+
+pub items_leads : NameLeads SomeItems items_spelling is_lit_tail
+items_leads = leads_both (repeated_spelling later_item (one (sign_mark Semicolon))) (leads_mapped item_parts same (leads_either true_leads lit_leads))

@@ -12,10 +12,11 @@ use Rattle.cyp_grammar.proofs.Mapped.{mapped_reads}
 use Rattle.cyp_grammar.proofs.Choices.{spell_either}
 use Rattle.cyp_grammar.proofs.Tellers.{sign_mark, sign_reads, word_place_reads}
 use Rattle.cyp_grammar.proofs.Firsts.{NameBegins, first_reads, name_mapped, name_right, or_right}
+use Rattle.cyp_grammar.proofs.Behinds.{NameLeads, leads_either, leads_mapped}
 use Rattle.cyp_spec.specs.Trees.{Comparing, Inside, IntTree, LitTree, Negation, SameSets, SetTree, SubSets}
 use Rattle.cyp_spec.specs.Grammar.{lit_spelling}
 use Rattle.cyp_spec.specs.LitReaders.{Base, Negated, Related, begins_base, begins_lit, lit_at, lit_in, lit_tree}
-use Rattle.cyp_spec.proofs.LitLaws.{base_reads, base_spelling, lit_ends, name_base}
+use Rattle.cyp_spec.proofs.LitLaws.{base_behind, base_reads, base_spelling, is_lit_tail, lit_ends, name_base}
 
 right_ends : Apart (is_sign RightParen) lit_ends
 right_ends (Symbol RightParen) e = refl
@@ -77,6 +78,13 @@ name_split = name_right name_base
 -- a literal may begin with any name
 pub name_lit : NameBegins LitTree lit_spelling
 name_lit = name_mapped lit_tree lit_parts there same name_split
+
+negated_leads : NameLeads Negated negated_spelling is_lit_tail
+negated_leads = record { behind = λ t w y K name h. absurd (cc (name.1, h.0.0)) }
+
+-- behind a name that begins a literal stands a sign of a sum or of a union, or a relation
+pub lit_leads : NameLeads LitTree lit_spelling is_lit_tail
+lit_leads = leads_mapped lit_parts same (leads_either negated_leads (record { behind = base_behind }))
 
 lit_first : (y : LitTree) (K : List Lexeme → Type 0) (t : Lexeme) (w : List Lexeme) → Then (lit_spelling y) K (t ∷ w) → begins_lit t.said ≡ true
 lit_first y K t w h = of (lit_parts y) (subst (λ (m : List Mark). Then m K (t ∷ w)) (same y) h)

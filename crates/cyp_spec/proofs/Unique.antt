@@ -2,20 +2,14 @@
 use Rattle.std.proofs.Common.{Err, List, Ok, Result, ap, false, inl, inr, length, map, sym, true, ℕ, ◌∙◌, ◌≡◌}
 use Rattle.std.specs.Prelude.{Bool, nat_le}
 use Rattle.cyp_grammar.specs.Lexemes.{Lexeme, lexeme_of}
-use Rattle.cyp_grammar.specs.Spelling.{Match}
 use Rattle.cyp_lex.specs.Lexing.{tokens_of}
 use Rattle.cyp_lex.specs.declared.fault.Fault.{Fault}
 use Rattle.cyp_lex.specs.declared.token.Token.{Token}
-use Rattle.cyp_spec.specs.Grammar.{text_spelling}
 use Rattle.cyp_spec.specs.Reading.{IsReadBy, IsReadFrom, IsReadingOf, judge}
-use Rattle.cyp_spec.specs.ReadingLaws.{OneReading, ReadNotRefused}
+use Rattle.cyp_spec.specs.ReadingLaws.{OneReading, OneTree, ReadNotRefused}
 use Rattle.cyp_spec.specs.Specifications.{Specification}
 use Rattle.cyp_spec.specs.Trees.{TextTree}
 use Rattle.cyp_spec.proofs.OneFault.{one_fault, spelled_has_none}
-
--- lexemes spell at most one tree
-abbrev pub OneTree : Type 0
-OneTree = (ls : List Lexeme) (t u : TextTree) → Match (text_spelling t) ls → Match (text_spelling u) ls → t ≡ u
 
 abbrev Answer : Type 0
 Answer = Result Specification Fault

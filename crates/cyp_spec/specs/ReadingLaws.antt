@@ -4,8 +4,16 @@ use Rattle.cyp_heap.specs.Formed.{IsFormed}
 use Rattle.cyp_heap.specs.PredsFormed.{IsFormedPreds}
 use Rattle.cyp_lex.specs.declared.fault.Fault.{Fault}
 use Rattle.cyp_spec.specs.LimitFaults.{is_root_within}
+use Rattle.cyp_grammar.specs.Lexemes.{Lexeme}
+use Rattle.cyp_grammar.specs.Spelling.{Match}
+use Rattle.cyp_spec.specs.Grammar.{text_spelling}
 use Rattle.cyp_spec.specs.Reading.{IsReading}
 use Rattle.cyp_spec.specs.Specifications.{Specification}
+use Rattle.cyp_spec.specs.Trees.{TextTree}
+
+-- lexemes spell at most one tree
+abbrev pub OneTree : Type 0
+OneTree = (ls : List Lexeme) (t u : TextTree) → Match (text_spelling t) ls → Match (text_spelling u) ls → t ≡ u
 
 -- a text has at most one reading
 abbrev pub OneReading : Type 0

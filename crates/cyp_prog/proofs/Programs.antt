@@ -1,0 +1,18 @@
+-- Laws of programs as texts.
+use Rattle.std.proofs.Common.{Err, Ok}
+use Rattle.cyp_prog.proofs.ProgramExact.{one_program}
+use Rattle.cyp_prog.proofs.Readings.{reading_once}
+use Rattle.cyp_prog.specs.Laws.{OneReading, OneTree, ReadIsNotRefused}
+use Rattle.cyp_prog.specs.Programs.{Procedure}
+use Rattle.cyp_prog.specs.Reading.{program_syntax}
+use Rattle.cyp_prog.specs.Trees.{ProgramTree}
+use Rattle.std.specs.Prelude.{List}
+
+pub one_tree : OneTree
+one_tree s t ls p q = one_program s t ls p q
+
+pub one_reading : OneReading
+one_reading bytes r s h i = reading_once ProgramTree (List Procedure) program_syntax one_program bytes r s h i
+
+pub read_is_not_refused : ReadIsNotRefused
+read_is_not_refused bytes program f h i = cc (one_reading bytes (Ok program) (Err f) h i)

@@ -1,0 +1,16 @@
+ghost use Rattle.cyp_prog.specs.Laws.{OneTree, OneReading, ReadIsNotRefused};
+
+/// Law: lexemes spell one program's tree at most.
+pub fn lexemes_spell_one_tree()
+    ensures { OneTree }
+{}
+
+/// Law: a text has one reading at most, a program or a fault.
+pub fn a_text_has_one_reading()
+    ensures { OneReading }
+{}
+
+/// Law: no text that spells a program is refused.
+pub fn a_read_text_is_not_refused()
+    ensures { ReadIsNotRefused }
+{}
