@@ -9,6 +9,7 @@ pub mod ExamplesGrammar
 pub mod ExamplesPrinted
 pub mod ExamplesRead
 pub mod ExamplesRefused
+pub mod ExamplesStops
 pub mod Exists
 pub mod FirstNames
 pub mod FormedCards
@@ -35,6 +36,7 @@ pub mod ReadTrees
 pub mod Scopes
 pub mod SetLaws
 pub mod Spoils
+pub mod StopsAt
 pub mod TextLaws
 pub mod TextOrder
 pub mod Unique
