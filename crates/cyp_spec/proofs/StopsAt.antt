@@ -1,8 +1,8 @@
 -- What the stop of the reader tells of a text, for worked examples.
-use Rattle.std.proofs.Common.{Err, List, None, Ok, Option, Result, Some, [], ap, append-nil, arith, inl, inr, length, length-append, refl, subst, suc, sym, ℕ, ◌+◌, ◌++◌, ◌∙◌, ◌∷◌, ◌≡◌, ◌⊎◌}
+use Rattle.std.proofs.Common.{Err, List, Result, [], ap, append-nil, arith, length, length-append, refl, subst, sym, ℕ, ◌++◌, ◌∙◌, ◌∷◌, ◌≡◌}
 use Rattle.cyp_grammar.specs.Beginnings.{Begins, IsRefusedAt, IsUnfinished, Refused}
-use Rattle.cyp_grammar.specs.Lexemes.{Lexeme, Number, Said}
-use Rattle.cyp_grammar.specs.Readers.{NoName, Stop}
+use Rattle.cyp_grammar.specs.Lexemes.{Lexeme, Number}
+use Rattle.cyp_grammar.specs.Readers.{AName, NoName, Stop}
 use Rattle.cyp_grammar.specs.Stops.{IsReading, IsStop, whole_of}
 use Rattle.cyp_spec.specs.Grammar.{text_spelling}
 use Rattle.cyp_spec.specs.GrammarFaults.{AllowsName, EndsInFirstNumber, name_at}
@@ -41,6 +41,9 @@ module _ (ls : List Lexeme) (s : Stop) (stops : whole_of text_at ls ≡ Err s) (
 
   pub no_name : s.want ≡ NoName → AllowsName before → ⊥
   no_name w all = stop.no_names w (name_at [] 0) ([], refl) (subst (λ (bs : List Lexeme). Begins text_spelling (bs ++ name_at [] 0 ∷ [])) (sym same.0) (all [] 0))
+
+  pub any_name : s.want ≡ AName → AllowsName before
+  any_name w text place = subst (λ (bs : List Lexeme). Begins text_spelling (bs ++ name_at text place ∷ [])) same.0 (stop.names w (name_at text place) (text, refl))
 
 -- the lexeme at which the reader stops is refused
 pub refused_at : (ls : List Lexeme) (s : Stop) → whole_of text_at ls ≡ Err s → (before : List Lexeme) (l : Lexeme) (after : List Lexeme) → ls ≡ before ++ l ∷ after → s.left ≡ length (l ∷ after)
