@@ -2,6 +2,7 @@
 use Rattle.std.proofs.Common.{List, [], ap, arith, cond, false, flat_map, inl, inr, length, map, not, refl, suc, true, zero, ℕ, ◌&&◌, ◌++◌, ◌∙◌, ◌≤◌, ◌∷◌, ◌≡◌}
 use Rattle.std.specs.Prelude.{Bool, nat_le, slice_get}
 use Rattle.std.specs.List.{list_all}
+use Rattle.std.proofs.lemmas.List.{length-map}
 use Rattle.std.proofs.lemmas.Bool.{and_from, and_parts, le-leb}
 use Rattle.cyp_heap.specs.PredsFormed.{IsFormedPreds, all_clauses, clause_guards, insts_plain, is_clause_within, is_productive, none_overlap}
 use Rattle.cyp_heap.specs.declared.pred.Clause.{Clause}
@@ -32,10 +33,6 @@ use Rattle.cyp_spec.proofs.PlainSorts.{param_plain}
 all_mapped : {A B : Type 0} (f : A → B) (test : B → Bool) (xs : List A) → ((x : A) → Among x xs → test (f x) ≡ true) → list_all test (map f xs) ≡ true
 all_mapped f test [] h = refl
 all_mapped f test (x ∷ xs) h = and_from _ _ (h x (inl refl)) (all_mapped f test xs (λ y m. h y (inr m)))
-
-length-mapped : {A B : Type 0} (f : A → B) (xs : List A) → length (map f xs) ≡ length xs
-length-mapped f [] = refl
-length-mapped f (x ∷ xs) = ap suc (length-mapped f xs)
 
 -- no predicate stands behind the last that is allowed
 short_by : (n : ℕ) (qs : List PredTree) → extra_pred_fault (slice_get qs n) ≡ [] → length qs ≤ n
@@ -137,7 +134,7 @@ module _ (t : TextTree) (right : name_faults t ≡ []) (within : limit_faults t 
 
   pub formed_preds : IsFormedPreds (read_preds qs)
   formed_preds = record {
-    few = le-leb _ 16 (omega (arith, length-mapped (read_pred qs) qs, short_by 16 qs first_limits.1));
+    few = le-leb _ 16 (omega (arith, length-map qs (read_pred qs), short_by 16 qs first_limits.1));
     has_clauses = each_pred _ (λ q m. le-leb 1 (suc (length (map (read_clause qs q.params) q.others))) (omega arith));
     few_clauses = each_pred _ (λ q m. (both_within q m).1);
     few_params = each_pred _ (λ q m. (both_within q m).0);
