@@ -13,7 +13,7 @@ use Rattle.cyp_spec.specs.GrammarFaults.{AllowsName, name_at}
 use Rattle.cyp_spec.proofs.NamesAllowed.{AllowsNone, IsNoMore, Parsed, Stops}
 use Rattle.cyp_spec.proofs.TextLaws.{text_reads}
 
-reading : (ls : List Lexeme) → IsReading text_spelling ls (whole_of text_at ls)
+pub reading : (ls : List Lexeme) → IsReading text_spelling ls (whole_of text_at ls)
 reading ls = whole_reads text_reads ls
 
 pub one_tree : OneTree
