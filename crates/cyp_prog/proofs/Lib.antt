@@ -7,3 +7,4 @@ pub mod Readings
 pub mod Programs
 pub mod Shallow
 pub mod Examples
+pub mod ExprLaws

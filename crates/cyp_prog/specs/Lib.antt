@@ -10,3 +10,4 @@ pub mod Nesting
 pub mod Passes
 pub mod Reading
 pub mod Laws
+pub mod ExprReaders
