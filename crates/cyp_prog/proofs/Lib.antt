@@ -8,3 +8,4 @@ pub mod Programs
 pub mod Shallow
 pub mod Examples
 pub mod ExprLaws
+pub mod StmtLaws

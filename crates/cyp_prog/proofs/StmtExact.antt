@@ -84,7 +84,7 @@ begins_stmt (Symbol signs.Star) = true
 begins_stmt (Name text) = true
 begins_stmt k = false
 
-no_stmt : (x : StmtTree) (K : List Lexeme → Type 0) → Then (stmt_spelling x) K [] → ⊥
+pub no_stmt : (x : StmtTree) (K : List Lexeme → Type 0) → Then (stmt_spelling x) K [] → ⊥
 no_stmt (LetStmt v x) K h = h
 no_stmt (StoreStmt x e) K h = h
 no_stmt (FreeStmt e) K h = h

@@ -11,3 +11,4 @@ pub mod Passes
 pub mod Reading
 pub mod Laws
 pub mod ExprReaders
+pub mod StmtReaders
