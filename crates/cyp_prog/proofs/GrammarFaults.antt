@@ -37,7 +37,7 @@ compare (l ∷ a) b (k ∷ c) d e =
     subst (λ (x : Lexeme). Compared (l ∷ a) b (x ∷ c) d) heads (more_compared l a b c d (compare a b c d tails))
 
 -- a beginning of a beginning is one
-begun : {A : Type 0} (spell : A → List Mark) (a b : List Lexeme) → Begins spell (a ++ b) → Begins spell a
+pub begun : {A : Type 0} (spell : A → List Mark) (a b : List Lexeme) → Begins spell (a ++ b) → Begins spell a
 begun spell a b h = (h.0, b ++ h.1, subst (λ (ls : List Lexeme). Match (spell h.0) ls) (append_assoc a b h.1) h.2)
 
 -- nothing is refused inside a beginning that is shallow

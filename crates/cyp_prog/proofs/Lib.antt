@@ -9,3 +9,5 @@ pub mod Shallow
 pub mod Examples
 pub mod ExprLaws
 pub mod StmtLaws
+pub mod ProgramLaws
+pub mod Decided
