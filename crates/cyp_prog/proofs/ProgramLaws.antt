@@ -11,10 +11,11 @@ use Rattle.cyp_grammar.proofs.Tellers.{ident_reads, sign_mark, sign_reads, word_
 use Rattle.cyp_grammar.proofs.Wholes.{whole_reads}
 use Rattle.cyp_grammar.specs.Lexemes.{Lexeme, Said, Symbol, Variable}
 use Rattle.cyp_grammar.specs.Readers.{NoName, is_sign, is_word, one_of}
-use Rattle.cyp_grammar.specs.Spelling.{Mark, Then, all_spelling, ident, sign, word}
+use Rattle.cyp_grammar.specs.Spelling.{IsEnd, Mark, Match, Then, ident, sign, word}
 use Rattle.cyp_grammar.specs.Stops.{IsReading, whole_of}
 use Rattle.cyp_lex.specs.declared.token.Sign.TheVariants.{Comma, LeftBrace, LeftParen, RightParen}
 use Rattle.cyp_lex.specs.declared.token.Word.TheVariants.{Void}
+use Rattle.cyp_prog.proofs.Exact.{end_avoids, reads_exact}
 use Rattle.cyp_prog.proofs.ExprLaws.{variable_reads}
 use Rattle.cyp_prog.proofs.StmtLaws.{block_reads, closed_block}
 use Rattle.cyp_prog.specs.ExprReaders.{is_variable}
@@ -88,7 +89,7 @@ program_in_reads zero = record {
 program_in_reads (suc n) = mapped_reads program_tree program_parts (λ x. program_there x.0 x.1) (λ p. program_again p.first p.others) (λ p. program_same p.first p.others)
     (option_reads {fA = none} (proc_reads (suc n)) (program_in_reads n) (apart_none _) (nowhere _) (within_self _) (within_self _) (λ x. refl))
 
-program_reads : (n : ℕ) → Reads n ProgramTree program_spelling (is_word Void) (is_word Void) program_at
+pub program_reads : (n : ℕ) → Reads n ProgramTree program_spelling (is_word Void) (is_word Void) program_at
 program_reads n = record {
   sound = λ ts short. (program_in_reads (suc (length ts))).sound ts (omega arith);
   first = λ p K t w h. ap (is_word Void) h.0;
@@ -101,3 +102,7 @@ program_reads n = record {
 -- lexemes spell a program, or they stop at the first that no program allows
 pub program_is_read : (ls : List Lexeme) → IsReading program_spelling ls (whole_of program_at ls)
 program_is_read ls = whole_reads program_reads ls
+
+-- lexemes spell one program at most
+pub one_program : (s t : ProgramTree) (ls : List Lexeme) → Match (program_spelling s) ls → Match (program_spelling t) ls → s ≡ t
+one_program s t ls h i = (reads_exact program_reads s t IsEnd IsEnd (end_avoids _) (end_avoids _) ls h i).0

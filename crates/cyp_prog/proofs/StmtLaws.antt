@@ -15,7 +15,6 @@ use Rattle.cyp_grammar.specs.Spelling.{Any, Ident, Mark, Match, Then, ident, sig
 use Rattle.cyp_lex.specs.declared.token.Sign.TheVariants.{Assign, LeftBrace, LeftParen, RightBrace, RightParen, Semicolon, Star}
 use Rattle.cyp_lex.specs.declared.token.Word.TheVariants.{Else, Error, Free, If, Let}
 use Rattle.cyp_prog.proofs.ExprLaws.{args_reads, enclosed_args, expr_reads, place_reads, some_test_reads, some_test_spelling, source_reads, variable_reads}
-use Rattle.cyp_prog.proofs.StmtExact.{no_stmt}
 use Rattle.cyp_prog.specs.ExprReaders.{SomeTest, is_sum}
 use Rattle.cyp_prog.specs.Grammar.{args_spelling, expr_spelling, place_spelling, source_spelling, stmt_spelling, stmts_spelling, test_spelling, variable}
 use Rattle.cyp_prog.specs.StmtReaders.{AnyBlock, AnyStmt, SomeCall, SomeElse, SomeError, SomeFree, SomeIf, SomeLet, SomeStore, begins_block, begins_free, begins_if, begins_let, begins_stmt, begins_store, block_at, block_in, block_tree, call_at, else_with, error_at, free_at, if_with, let_at, stmt_tree, stmt_with, store_at}
@@ -196,6 +195,14 @@ stmt_begins (FreeStmt e) K l ls h = ap begins_stmt h.0
 stmt_begins (CallStmt i es) K l ls h = ap begins_stmt h.0.0
 stmt_begins (IfStmt a s b c d) K l ls h = ap begins_stmt h.0
 stmt_begins ErrorStmt K l ls h = ap begins_stmt h.0
+
+no_stmt : (x : StmtTree) (K : List Lexeme → Type 0) → Then (stmt_spelling x) K [] → ⊥
+no_stmt (LetStmt v s) K h = h
+no_stmt (StoreStmt p e) K h = h
+no_stmt (FreeStmt e) K h = h
+no_stmt (CallStmt i es) K h = h
+no_stmt (IfStmt a s b c d) K h = h
+no_stmt ErrorStmt K h = h
 
 -- a statement is followed by the rest of its block
 behind : (s : StmtTree) (b : BlockTree) (K : List Lexeme → Type 0) (ls : List Lexeme) → Then (closed_block (Stmts s b)) K ls → Then (stmt_spelling s) (Then (closed_block b) K) ls
