@@ -1,3 +1,4 @@
-pub mod InputExact
-pub mod Inputs
 pub mod InputExamples
+pub mod InputLaws
+pub mod Inputs
+pub mod LineLaws

@@ -1,2 +1,3 @@
 pub mod RunInput
 pub mod RunInputLaws
+pub mod RunInputReaders

@@ -74,6 +74,21 @@ shallow_or_deep ls = shallow_from [] ls none_shallow
 
 -- ---- readings
 
+-- the lexemes spell a tree, or they are refused behind a beginning
+pub record Stopped (A : Type 0) (spell : A → List Mark) (ls : List Lexeme) : Type 0 where
+  pub before : List Lexeme
+  pub rest : List Lexeme
+  pub parts : ls ≡ before ++ rest
+  pub begins : Begins spell before
+  pub refused : Refused spell before rest
+
+abbrev pub Decision : (A : Type 0) → (A → List Mark) → List Lexeme → Type 0
+Decision A spell ls = ((tree : A) × Match (spell tree) ls) ⊎ Stopped A spell ls
+
+pub decided : {A : Type 0} (spell : A → List Mark) (ls : List Lexeme) (r : Result A Stop) → IsReading spell ls r → Decision A spell ls
+decided spell ls (Ok t) h = inl (t, h.0)
+decided spell ls (Err s) h = inr (record { before = h.before; rest = h.rest; parts = h.parts; begins = h.begins; refused = h.refused })
+
 -- the text has a reading
 abbrev pub IsRead : (A R : Type 0) → passes.Syntax A R → List ℕ → Type 0
 IsRead A R x bytes = (result : Result R ProgFault) × passes.IsReading x bytes result
@@ -121,19 +136,18 @@ tree_read A R x bytes ls t says m (inr d) =
     let all : ls ≡ ls ++ [] = sym (append-nil ls) in
     fault_too_deep A R x bytes ls [] (subst (λ (l : List Lexeme). passes.Says bytes l) all says) (t, [], subst (λ (l : List Lexeme). Match (x.spelling t) l) all m) d
 
-lexemes_read : (A R : Type 0) (x : passes.Syntax A R) (bytes : List ℕ) (ls : List Lexeme) → passes.Says bytes ls → (r : Result A Stop) → IsReading x.spelling ls r → IsRead A R x bytes
-lexemes_read A R x bytes ls says (Ok t) h = tree_read A R x bytes ls t says h.0 (shallow_or_deep ls)
-lexemes_read A R x bytes ls says (Err s) h =
+lexemes_read : (A R : Type 0) (x : passes.Syntax A R) (bytes : List ℕ) (ls : List Lexeme) → passes.Says bytes ls → Decision A x.spelling ls → IsRead A R x bytes
+lexemes_read A R x bytes ls says (inl t) = tree_read A R x bytes ls t.0 says t.1 (shallow_or_deep ls)
+lexemes_read A R x bytes ls says (inr h) =
     fault_expected A R x bytes h.before h.rest (subst (λ (l : List Lexeme). passes.Says bytes l) h.parts says) h.begins h.refused (shallow_or_deep h.before)
 
-tokens_read : (A R : Type 0) (x : passes.Syntax A R) → ((ls : List Lexeme) → (r : Result A Stop) × IsReading x.spelling ls r) → (bytes : List ℕ)
-    → (ts : Result (List Token) Fault) → program_tokens_of bytes ≡ ts → IsRead A R x bytes
-tokens_read A R x reads bytes (Err f) e =
+tokens_read : (A R : Type 0) (x : passes.Syntax A R) → ((ls : List Lexeme) → Decision A x.spelling ls) → (bytes : List ℕ) → (ts : Result (List Token) Fault) → program_tokens_of bytes ≡ ts → IsRead A R x bytes
+tokens_read A R x decides bytes (Err f) e =
     (Err (record { kind = passes.token_kind f.kind; place = f.place }), inl (record { fault = f; lexed = e; kind = refl; place = refl }))
-tokens_read A R x reads bytes (Ok ts) e =
+tokens_read A R x decides bytes (Ok ts) e =
     let ls : List Lexeme = program_lexemes bytes ts in
-    lexemes_read A R x bytes ls (record { tokens = ts; lexed = e; said = refl }) (reads ls).0 (reads ls).1
+    lexemes_read A R x bytes ls (record { tokens = ts; lexed = e; said = refl }) (decides ls)
 
 -- each text has a reading
-pub has_reading : (A R : Type 0) (x : passes.Syntax A R) → ((ls : List Lexeme) → (r : Result A Stop) × IsReading x.spelling ls r) → (bytes : List ℕ) → IsRead A R x bytes
-has_reading A R x reads bytes = tokens_read A R x reads bytes (program_tokens_of bytes) refl
+pub has_reading : (A R : Type 0) (x : passes.Syntax A R) → ((ls : List Lexeme) → Decision A x.spelling ls) → (bytes : List ℕ) → IsRead A R x bytes
+has_reading A R x decides bytes = tokens_read A R x decides bytes (program_tokens_of bytes) refl

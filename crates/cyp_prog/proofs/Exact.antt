@@ -14,11 +14,11 @@ abbrev pub IsExact : {A : Type 0} → (Said → Bool) → (A → List Mark) → 
 IsExact {A} ends spell =
     (x y : A) (K L : List Lexeme → Type 0) → Avoids ends K → Avoids ends L → (ls : List Lexeme) → Then (spell x) K ls → Then (spell y) L ls → (x ≡ y) × Both K L
 
-same_head : (ls : List Lexeme) → SameHead ls ls
+pub same_head : (ls : List Lexeme) → SameHead ls ls
 same_head [] = tt
 same_head (l ∷ ls) = refl
 
-bars_self : (want : Want) (ls : List Lexeme) → Bars want ls ls
+pub bars_self : (want : Want) (ls : List Lexeme) → Bars want ls ls
 bars_self AName ls = same_head ls
 bars_self NoName ls = inl (same_head ls)
 
