@@ -1,15 +1,15 @@
 -- Worked examples of the input of a run.
-use Rattle.std.proofs.Common.{◌≡◌, ◌++◌, [], ◌∷◌, Bool, Err, List, Ok, Result, arith, drop, false, inl, inr, refl, subst, sym, true, ℕ}
+use Rattle.std.proofs.Common.{◌≡◌, ◌++◌, [], ◌∷◌, Err, List, Ok, Result, arith, drop, false, inl, inr, refl, subst, true, ℕ}
 use Rattle.std.specs.FinMap.{from_entries}
 use Rattle.std.specs.Prelude.{codes, neg_ℤ, pos}
 use Rattle.cyp_grammar.proofs.Spellings.{then_split}
 use Rattle.cyp_grammar.specs.Beginnings.{Begins}
-use Rattle.cyp_grammar.specs.Lexemes.{Lexeme, Name, Reserved, Symbol, Variable}
+use Rattle.cyp_grammar.specs.Lexemes.{Lexeme, Name, Variable}
 use Rattle.cyp_grammar.specs.Spelling.{IsEnd, Then, all_spelling}
 use Rattle.cyp_lex.specs.Lexing.{lexed, name_kind, piece_at, program_tokens_of, sign_at, stands}
 use Rattle.cyp_lex.specs.declared.fault.Fault.{Fault}
 use Rattle.cyp_lex.specs.declared.token.Token.{Token}
-use Rattle.cyp_machine.specs.RunInput.{BlockPiece, CellPiece, InputTree, IsInputReading, NumTree, RunInput, input_spelling, start_spelling}
+use Rattle.cyp_machine.specs.RunInput.{BlockPiece, CellPiece, InputTree, IsInputReading, RunInput, input_spelling, start_spelling}
 use Rattle.cyp_prog.proofs.Exact.{reads_exact}
 use Rattle.cyp_prog.proofs.ProgramLaws.{proc_reads}
 use Rattle.cyp_prog.proofs.Shallow.{few_braces}
@@ -17,7 +17,7 @@ use Rattle.cyp_prog.specs.Faults.{Expected, NumberRange}
 use Rattle.cyp_prog.specs.Grammar.{proc_spelling, program_spelling}
 use Rattle.cyp_prog.specs.Lexemes.{program_lexemes}
 use Rattle.cyp_prog.specs.Programs.{End}
-use Rattle.cyp_prog.specs.Trees.{NoStmts, ProcTree, ProgramTree}
+use Rattle.cyp_prog.specs.Trees.{NoStmts, ProcTree}
 
 found : Result (List Token) Fault → List Token
 found (Ok ts) = ts

@@ -1,5 +1,5 @@
 -- Lexemes spell one input of a run, or they are refused somewhere.
-use Rattle.std.proofs.Common.{◌≡◌, ◌++◌, ◌∙◌, ◌⊎◌, Bool, Err, List, Ok, Result, [], ◌∷◌, ap, append-nil, append_assoc, arith, false, inl, inr, length, refl, subst, suc, sym, true, ℕ}
+use Rattle.std.proofs.Common.{◌≡◌, ◌++◌, ◌∙◌, ◌⊎◌, Bool, Err, List, Ok, [], ◌∷◌, ap, append-nil, append_assoc, arith, false, inl, inr, length, refl, subst, suc, sym, true, ℕ}
 use Rattle.std.specs.Prelude.{codes}
 use Rattle.std.specs.Str.{bytes_eq}
 use Rattle.std.specs.Bool.{Decides}
@@ -8,7 +8,7 @@ use Rattle.cyp_grammar.proofs.Lists.{made}
 use Rattle.cyp_grammar.proofs.Readings.{Avoids, Bars, SameHead, Sound, Stuck, Took}
 use Rattle.cyp_grammar.proofs.Spellings.{then_join, then_put, then_split}
 use Rattle.cyp_grammar.proofs.Wholes.{whole_reads}
-use Rattle.cyp_grammar.specs.Beginnings.{Begins, Refused}
+use Rattle.cyp_grammar.specs.Beginnings.{Refused}
 use Rattle.cyp_grammar.specs.Lexemes.{Lexeme, Name, Said}
 use Rattle.cyp_grammar.specs.Readers.{AName, NoName, Read, Stop, Want, is_word}
 use Rattle.cyp_grammar.specs.Spelling.{IsEnd, Mark, Match, Then}
@@ -41,7 +41,7 @@ start_same s t (l ∷ ls) h i = (reads_exact line_reads s t IsEnd IsEnd (end_avo
 pub one_input : (x y : InputTree) (ls : List Lexeme) → Match (input_spelling x) ls → Match (input_spelling y) ls → x ≡ y
 one_input x y ls h i =
     let program = reads_exact program_reads x.program y.program (Match (start_spelling x.start)) (Match (start_spelling y.start)) (start_avoids x.start IsEnd) (start_avoids y.start IsEnd) ls
-        (then_split (program_spelling x.program) (start_spelling x.start) IsEnd ls h) (then_split (program_spelling y.program) (start_spelling y.start) IsEnd ls i) in
+    (then_split (program_spelling x.program) (start_spelling x.start) IsEnd ls h) (then_split (program_spelling y.program) (start_spelling y.start) IsEnd ls i) in
     input_is x y program.0 (start_same x.start y.start program.1.0 program.1.1 program.1.2)
 
 -- ---- what is refused
@@ -137,8 +137,11 @@ line_by ls p l us h e (inr g) =
       before = h.front ++ (l ∷ g.before);
       rest = g.rest;
       parts = h.parts ∙ ap (λ (w : List Lexeme). h.front ++ (l ∷ w)) g.parts ∙ sym (append_assoc h.front (l ∷ g.before) g.rest);
-      begins = (record { program = p; start = line.0 }, line.1,
-          subst (λ (w : List Lexeme). Match (input_spelling (record { program = p; start = line.0 })) w) (sym (append_assoc h.front (l ∷ g.before) line.1)) (joined p line.0 h.front (l ∷ (g.before ++ line.1)) h.matched (e, line.2)));
+      begins = (
+        record { program = p; start = line.0 },
+        line.1,
+        subst (λ (w : List Lexeme). Match (input_spelling (record { program = p; start = line.0 })) w) (sym (append_assoc h.front (l ∷ g.before) line.1)) (joined p line.0 h.front (l ∷ (g.before ++ line.1)) h.matched (e, line.2)),
+      );
       refused = refuse_by input_spelling (h.front ++ (l ∷ g.before)) g.rest (λ w same x m. never w same x (subst (λ (v : List Lexeme). Match (input_spelling x) v) (append_assoc h.front (l ∷ g.before) w) m));
     })
   where

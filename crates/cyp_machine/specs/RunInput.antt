@@ -6,7 +6,7 @@
 --     num    = NUMBER | "-" NUMBER
 use Rattle.std.specs.FinMap.{from_entries}
 use Rattle.std.specs.List.{list_any}
-use Rattle.std.specs.Prelude.{[], ◌&&◌, ◌++◌, ◌==◌, Bool, List, Ok, Result, codes, cond, flat_map, length, map, nat_le, neg_ℤ, not, pos, ℕ, ℤ, ◌∷◌}
+use Rattle.std.specs.Prelude.{[], ◌++◌, ◌==◌, Bool, List, Result, codes, cond, flat_map, length, map, nat_le, neg_ℤ, not, pos, ℕ, ℤ, ◌∷◌}
 use Rattle.cyp_grammar.specs.Lexemes.{Name, Number, Symbol}
 use Rattle.cyp_grammar.specs.Spelling.{Any, At, Ident, Mark, ident, list_spelling, separated, sign, word}
 use Rattle.cyp_heap.specs.Stores.{Store}

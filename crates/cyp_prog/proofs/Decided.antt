@@ -1,16 +1,16 @@
 -- A text has a reading, where the grammar tells for all lexemes whether they spell a tree and where they stop.
-use Rattle.std.proofs.Common.{◌≡◌, ◌++◌, ◌+◌, ◌∙◌, ◌≤◌, ◌⊎◌, Bool, Err, List, None, Ok, Option, Result, Some, [], ◌∷◌, ap, append-nil, append_assoc, arith, false, inl, inr, length, length-append, nat_le, refl, subst, sym, true, ℕ}
+use Rattle.std.proofs.Common.{◌≡◌, ◌++◌, ◌∙◌, ◌⊎◌, Bool, Err, List, None, Ok, Option, Result, Some, [], ◌∷◌, ap, append-nil, append_assoc, arith, false, inl, inr, length, length-append, nat_le, refl, subst, sym, true, ℕ}
 use Rattle.std.proofs.lemmas.Bool.{leb-false, leb-true}
 use Rattle.cyp_grammar.specs.Beginnings.{Begins, Refused}
 use Rattle.cyp_grammar.specs.Lexemes.{Lexeme, Reserved, Said}
-use Rattle.cyp_grammar.specs.Readers.{Stop, is_word}
+use Rattle.cyp_grammar.specs.Readers.{Stop}
 use Rattle.cyp_grammar.specs.Spelling.{Mark, Match}
-use Rattle.cyp_grammar.specs.Stops.{IsReading, IsStop}
+use Rattle.cyp_grammar.specs.Stops.{IsReading}
 use Rattle.cyp_lex.specs.Lexing.{program_tokens_of}
 use Rattle.cyp_lex.specs.declared.fault.Fault.{Fault}
 use Rattle.cyp_lex.specs.declared.token.Token.{Token}
 use Rattle.cyp_lex.specs.declared.token.Word.TheVariants.{If}
-use Rattle.cyp_prog.proofs.GrammarFaults.{Compared, GoesOn, begun, compare}
+use Rattle.cyp_prog.proofs.GrammarFaults.{Compared, begun, compare}
 use Rattle.cyp_prog.specs.Faults.{Expected, ProgFault, TooLarge, least_fault}
 use Rattle.cyp_prog.specs.Lexemes.{program_lexemes}
 use Rattle.cyp_prog.specs.Nesting.{IsShallow, IsTooDeep, conditionals_round}
@@ -47,7 +47,7 @@ no_deeper before b a l k s not_so e deep (inl same) =
     let heads : l ≡ k = cc (same.1) in
     not_so (subst (λ (x : Lexeme). IsTooDeep before x) (sym heads) (subst (λ (ls : List Lexeme). IsTooDeep ls k) (sym same.0) deep))
 no_deeper before b a l k s not_so e deep (inr (inl on)) =
-    omega (arith, length-append before (l ∷ []) , length-append b (k ∷ a), length-append before (on.next ∷ on.more), ap (λ (ls : List Lexeme). length ls) e, ap (λ (ls : List Lexeme). length ls) on.is)
+    omega (arith, length-append before (l ∷ []), length-append b (k ∷ a), length-append before (on.next ∷ on.more), ap (λ (ls : List Lexeme). length ls) e, ap (λ (ls : List Lexeme). length ls) on.is)
 no_deeper before b a l k s not_so e deep (inr (inr on)) =
     let heads : k ≡ on.next = cc (on.begins) in
     s b on.more k (on.is ∙ ap (λ (x : Lexeme). b ++ x ∷ on.more) (sym heads)) deep
@@ -97,16 +97,18 @@ fault_too_deep : (A R : Type 0) (x : passes.Syntax A R) (bytes : List ℕ) (befo
 fault_too_deep A R x bytes before rest says b d =
     let shown : before ++ rest ≡ d.before ++ (d.at ∷ (d.after ++ rest)) = ap (λ (ls : List Lexeme). ls ++ rest) d.parts ∙ append_assoc d.before (d.at ∷ d.after) rest in
     let there : Begins x.spelling ((d.before ++ d.at ∷ []) ++ d.after) = subst (λ (ls : List Lexeme). Begins x.spelling ls) (d.parts ∙ sym (append_assoc d.before (d.at ∷ []) d.after)) b in
-    let at : Begins x.spelling (d.before ++ d.at ∷ []) = begun x.spelling (d.before ++ d.at ∷ []) d.after there in
-    (Err (record { kind = TooLarge; place = d.at.place }), inr (inl (record {
-      before = d.before;
-      rest = d.at ∷ (d.after ++ rest);
-      says = subst (λ (ls : List Lexeme). passes.Says bytes ls) shown says;
-      begun = begun x.spelling d.before (d.at ∷ []) at;
-      shallow = d.shallow;
-      refused = (at, d.deep);
-      place = refl;
-    })))
+    let at : Begins x.spelling (d.before ++ d.at ∷ []) = begun x.spelling (d.before ++ d.at ∷ []) d.after there in (
+      Err (record { kind = TooLarge; place = d.at.place }),
+      inr (inl (record {
+        before = d.before;
+        rest = d.at ∷ (d.after ++ rest);
+        says = subst (λ (ls : List Lexeme). passes.Says bytes ls) shown says;
+        begun = begun x.spelling d.before (d.at ∷ []) at;
+        shallow = d.shallow;
+        refused = (at, d.deep);
+        place = refl;
+      })),
+    )
 
 refused_is : {A : Type 0} (spell : A → List Mark) (before rest : List Lexeme) → Refused spell before rest → passes.IsRefused spell before rest Expected
 refused_is spell before [] h = h
@@ -115,16 +117,18 @@ refused_is spell before (l ∷ ls) h = h
 fault_expected : (A R : Type 0) (x : passes.Syntax A R) (bytes : List ℕ) (before rest : List Lexeme) → passes.Says bytes (before ++ rest) → Begins x.spelling before → Refused x.spelling before rest
     → IsShallow before ⊎ DeepAt before → IsRead A R x bytes
 fault_expected A R x bytes before rest says b refused (inr d) = fault_too_deep A R x bytes before rest says b d
-fault_expected A R x bytes before rest says b refused (inl s) =
-    (Err (record { kind = Expected; place = passes.place_of_next (length bytes) rest }), inr (inl (record {
-      before = before;
-      rest = rest;
-      says = says;
-      begun = b;
-      shallow = s;
-      refused = refused_is x.spelling before rest refused;
-      place = refl;
-    })))
+fault_expected A R x bytes before rest says b refused (inl s) = (
+  Err (record { kind = Expected; place = passes.place_of_next (length bytes) rest }),
+  inr (inl (record {
+    before = before;
+    rest = rest;
+    says = says;
+    begun = b;
+    shallow = s;
+    refused = refused_is x.spelling before rest refused;
+    place = refl;
+  })),
+)
 
 judged : (A R : Type 0) (x : passes.Syntax A R) (bytes : List ℕ) (t : A) → passes.HasTree A R x bytes t → (least : Option ProgFault) → least_fault (x.faults t) ≡ least → IsRead A R x bytes
 judged A R x bytes t h None e = (Ok (x.said t), record { tree = t; parsed = h; faultless = e; said = refl })

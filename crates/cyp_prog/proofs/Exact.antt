@@ -1,6 +1,6 @@
 -- What is read as it is spelled is told by its spelling.
 use Rattle.std.proofs.Common.{◌≡◌, ◌∙◌, Err, List, Ok, [], ◌∷◌, arith, inl, length, refl, subst, suc, sym, Bool, ℕ}
-use Rattle.cyp_grammar.proofs.Readings.{Avoids, Bars, Next, Reads, SameHead, Sound}
+use Rattle.cyp_grammar.proofs.Readings.{Avoids, Bars, Reads, SameHead, Sound}
 use Rattle.cyp_grammar.specs.Lexemes.{Lexeme, Said}
 use Rattle.cyp_grammar.specs.Readers.{AName, NoName, Read, Want}
 use Rattle.cyp_grammar.specs.Spelling.{IsEnd, Mark, Then}

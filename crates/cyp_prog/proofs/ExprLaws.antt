@@ -1,5 +1,5 @@
 -- Expressions, places and what a `let` binds are read as they are spelled.
-use Rattle.std.proofs.Common.{◌≡◌, ℕ, Bool, true, false, List, [], ◌∷◌, ◌++◌, Option, Some, None, ◌⊎◌, inl, inr, refl, ap}
+use Rattle.std.proofs.Common.{◌≡◌, ℕ, Bool, true, false, List, Option, Some, None, ◌⊎◌, inl, inr, refl, ap}
 use Rattle.cyp_grammar.proofs.Choices.{spell_either}
 use Rattle.cyp_grammar.proofs.Enclosures.{enclosed_reads, enclosed_spelling}
 use Rattle.cyp_grammar.proofs.Firsts.{first_reads}
@@ -9,7 +9,7 @@ use Rattle.cyp_grammar.proofs.Readings.{Apart, Reads, Within, apart_none, less_r
 use Rattle.cyp_grammar.proofs.Sequences.{both_reads, spell_both}
 use Rattle.cyp_grammar.proofs.Singles.{one, some_is}
 use Rattle.cyp_grammar.proofs.Tellers.{Tells, number_mark, number_token_reads, placed_mark, placed_number_reads, placed_reads, plainly_reads, sign_mark, sign_reads, word_mark, word_reads}
-use Rattle.cyp_grammar.specs.Lexemes.{Number, Reserved, Said, Symbol, Variable}
+use Rattle.cyp_grammar.specs.Lexemes.{Number, Said, Symbol, Variable}
 use Rattle.cyp_grammar.specs.Readers.{NoName, is_number, is_sign, is_word, one_of}
 use Rattle.cyp_grammar.specs.Spelling.{Any, At, Mark}
 use Rattle.cyp_lex.specs.declared.token.Sign.TheVariants as signs

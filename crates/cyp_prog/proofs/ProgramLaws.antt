@@ -1,15 +1,14 @@
 -- Procedures and programs are read as they are spelled.
-use Rattle.std.proofs.Common.{◌≡◌, ◌<◌, ℕ, zero, suc, Bool, List, [], ◌∷◌, ◌++◌, Option, None, Some, refl, sym, ap, subst, append-nil, append_assoc, length, arith}
+use Rattle.std.proofs.Common.{◌≡◌, ℕ, zero, suc, List, [], ◌∷◌, Option, None, Some, refl, sym, ap, subst, append-nil, append_assoc, length, arith}
 use Rattle.cyp_grammar.proofs.Enclosures.{enclosed_reads, enclosed_spelling}
 use Rattle.cyp_grammar.proofs.Mapped.{mapped_reads}
 use Rattle.cyp_grammar.proofs.Options.{option_reads, spell_option}
 use Rattle.cyp_grammar.proofs.Readings.{Apart, Reads, apart_none, none, nowhere, within_self}
 use Rattle.cyp_grammar.proofs.Sequences.{both_reads, spell_both}
 use Rattle.cyp_grammar.proofs.Singles.{one}
-use Rattle.cyp_grammar.proofs.Spellings.{then_split}
 use Rattle.cyp_grammar.proofs.Tellers.{ident_reads, sign_mark, sign_reads, word_mark, word_reads}
 use Rattle.cyp_grammar.proofs.Wholes.{whole_reads}
-use Rattle.cyp_grammar.specs.Lexemes.{Lexeme, Said, Symbol, Variable}
+use Rattle.cyp_grammar.specs.Lexemes.{Lexeme, Symbol, Variable}
 use Rattle.cyp_grammar.specs.Readers.{NoName, is_sign, is_word, one_of}
 use Rattle.cyp_grammar.specs.Spelling.{IsEnd, Mark, Match, Then, ident, sign, word}
 use Rattle.cyp_grammar.specs.Stops.{IsReading, whole_of}
@@ -21,7 +20,7 @@ use Rattle.cyp_prog.proofs.StmtLaws.{block_reads, closed_block}
 use Rattle.cyp_prog.specs.ExprReaders.{is_variable}
 use Rattle.cyp_prog.specs.Grammar.{param_spelling, params_spelling, proc_spelling, program_spelling}
 use Rattle.cyp_prog.specs.StmtReaders.{SomeProc, params_at, proc_at, proc_tree, program_at, program_in, program_tree}
-use Rattle.cyp_prog.specs.Trees.{ProcTree, ProgramTree, VarTree, procs_of}
+use Rattle.cyp_prog.specs.Trees.{ProcTree, ProgramTree, VarTree}
 
 -- ---- procedures
 

@@ -1,24 +1,24 @@
 -- Statements and blocks are read as they are spelled.
-use Rattle.std.proofs.Common.{◌≡◌, ◌<◌, ℕ, zero, suc, Bool, true, false, List, [], ◌∷◌, ◌++◌, ◌⊎◌, inl, inr, refl, sym, ap, subst, append_assoc, length, arith}
-use Rattle.cyp_grammar.proofs.Choices.{SaysStart, spell_either}
-use Rattle.cyp_grammar.proofs.Firsts.{NameBegins, first_reads, name_both, name_ident, name_left, name_mapped, or_left, or_right}
+use Rattle.std.proofs.Common.{◌≡◌, ℕ, zero, suc, true, List, [], ◌∷◌, ◌++◌, ◌⊎◌, inl, inr, refl, sym, ap, subst, append_assoc, length, arith}
+use Rattle.cyp_grammar.proofs.Choices.{spell_either}
+use Rattle.cyp_grammar.proofs.Firsts.{NameBegins, first_reads, name_both, name_ident, name_left, or_left}
 use Rattle.cyp_grammar.proofs.Lists.{made}
 use Rattle.cyp_grammar.proofs.Mapped.{mapped_reads}
-use Rattle.cyp_grammar.proofs.Readings.{Apart, Reads, Within, apart_none, none, nowhere, within_self}
+use Rattle.cyp_grammar.proofs.Readings.{Apart, Reads, apart_none, none, within_self}
 use Rattle.cyp_grammar.proofs.Sequences.{both_reads, spell_both, then_reads}
 use Rattle.cyp_grammar.proofs.Singles.{one}
 use Rattle.cyp_grammar.proofs.Spellings.{then_split}
 use Rattle.cyp_grammar.proofs.Tellers.{ident_reads, sign_mark, sign_reads, word_mark, word_reads}
-use Rattle.cyp_grammar.specs.Lexemes.{Lexeme, Name, Reserved, Said, Symbol}
-use Rattle.cyp_grammar.specs.Readers.{AName, IsNamed, NoName, Read, first_tells, ident_of, is_name, is_sign, is_word, one_of}
-use Rattle.cyp_grammar.specs.Spelling.{Any, Ident, Mark, Match, Then, ident, sign, word}
+use Rattle.cyp_grammar.specs.Lexemes.{Lexeme, Name, Reserved, Symbol}
+use Rattle.cyp_grammar.specs.Readers.{AName, IsNamed, NoName, Read, ident_of, is_name, is_sign, is_word}
+use Rattle.cyp_grammar.specs.Spelling.{Mark, Match, Then, ident, sign, word}
 use Rattle.cyp_lex.specs.declared.token.Sign.TheVariants.{Assign, LeftBrace, LeftParen, RightBrace, RightParen, Semicolon, Star}
 use Rattle.cyp_lex.specs.declared.token.Word.TheVariants.{Else, Error, Free, If, Let}
 use Rattle.cyp_prog.proofs.ExprLaws.{args_reads, enclosed_args, expr_reads, place_reads, some_test_reads, some_test_spelling, source_reads, variable_reads}
-use Rattle.cyp_prog.specs.ExprReaders.{SomeTest, is_sum}
+use Rattle.cyp_prog.specs.ExprReaders.{is_sum}
 use Rattle.cyp_prog.specs.Grammar.{args_spelling, expr_spelling, place_spelling, source_spelling, stmt_spelling, stmts_spelling, test_spelling, variable}
-use Rattle.cyp_prog.specs.StmtReaders.{AnyBlock, AnyStmt, SomeCall, SomeElse, SomeError, SomeFree, SomeIf, SomeLet, SomeStore, begins_block, begins_free, begins_if, begins_let, begins_stmt, begins_store, block_at, block_in, block_tree, call_at, else_with, error_at, free_at, if_with, let_at, stmt_tree, stmt_with, store_at}
-use Rattle.cyp_prog.specs.Trees.{BlockTree, CallStmt, ErrorStmt, ExprTree, FreeStmt, IfStmt, LetStmt, NoStmts, PlaceTree, SourceTree, StmtTree, Stmts, StoreStmt, VarTree}
+use Rattle.cyp_prog.specs.StmtReaders.{AnyBlock, AnyStmt, SomeCall, SomeElse, SomeError, SomeFree, SomeIf, SomeLet, SomeStore, begins_block, begins_free, begins_if, begins_let, begins_stmt, begins_store, block_at, block_in, block_tree, call_at, error_at, free_at, if_with, let_at, stmt_tree, stmt_with, store_at}
+use Rattle.cyp_prog.specs.Trees.{BlockTree, CallStmt, ErrorStmt, FreeStmt, IfStmt, LetStmt, NoStmts, StmtTree, Stmts, StoreStmt}
 
 -- ---- statements without blocks
 
@@ -218,10 +218,11 @@ block_full NoStmts K h = h
 
 -- where a name stands a call may stand
 name_block : (t : Lexeme) → IsNamed t → (y : AnyBlock) × (w : List Lexeme) × Match (any_block_spelling y) (t ∷ w)
-name_block t n =
-    (inl (CallStmt (ident_of (t.place, n.0)) [], NoStmts),
-     made (Symbol LeftParen) ∷ made (Symbol RightParen) ∷ made (Symbol Semicolon) ∷ made (Symbol RightBrace) ∷ [],
-     ((n.1, refl), (refl, (refl, (refl, (refl, refl))))))
+name_block t n = (
+  inl (CallStmt (ident_of (t.place, n.0)) [], NoStmts),
+  made (Symbol LeftParen) ∷ made (Symbol RightParen) ∷ made (Symbol Semicolon) ∷ made (Symbol RightBrace) ∷ [],
+  ((n.1, refl), (refl, (refl, (refl, (refl, refl))))),
+)
 
 pub block_in_reads : (n : ℕ) → Reads n BlockTree closed_block begins_block none (block_in n)
 block_in_reads zero = record {
