@@ -39,6 +39,7 @@ pub record StartTree : Type 0 where
   pub args : List NumTree
   pub pieces : List PieceTree
 
+-- a program and its start line
 pub record InputTree : Type 0 where
   pub program : ProgramTree
   pub start : StartTree
@@ -92,7 +93,7 @@ piece_faults bases addresses (BlockPiece p b q n ∷ ps) =
 piece_faults bases addresses (CellPiece p a t ∷ ps) =
     key_faults addresses p a ++ range_faults t.place t.n ++ piece_faults bases (a ∷ addresses) ps
 
--- the called procedure is one of these
+-- the called procedure is to be one of these
 abbrev pub start_faults : List ProcTree → StartTree → List ProgFault
 start_faults qs t =
     call_faults qs t.name (length t.args) ++ flat_map (λ (a : NumTree). range_faults a.place a.n) t.args ++ piece_faults [] [] t.pieces
@@ -118,6 +119,7 @@ blocks_of [] = []
 blocks_of (BlockPiece p b q n ∷ ps) = (pos b, n) ∷ blocks_of ps
 blocks_of (CellPiece p a t ∷ ps) = blocks_of ps
 
+-- the heap of these pieces
 abbrev pub store_of : List PieceTree → Store
 store_of ps = record { cells = from_entries (cells_of ps); blocks = from_entries (blocks_of ps) }
 
