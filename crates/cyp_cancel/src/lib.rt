@@ -1,2 +1,9 @@
 //! The words by which workers are told to stop.
 #![tactic(auto)]
+
+mod laws;
+
+pub use laws::{
+    each_kind_keeps_the_rule, each_kind_leaves_words, fresh_table_meets_the_rule,
+    numbers_of_words_fit, numbers_tell_words_apart,
+};

@@ -4,3 +4,7 @@ pub mod Pruning
 pub mod Numbering
 pub mod Normal
 pub mod Facts
+pub mod Raw
+pub mod Laws
+pub mod Renamed
+pub mod RenamingLaw

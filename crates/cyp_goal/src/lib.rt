@@ -1,2 +1,7 @@
-//! The normal form of a goal with its companions, and the facts of a goal: definitions.
+//! The normal form of a goal with its companions, and the facts of a goal: definitions, and laws
+//! of the normal form.
 #![tactic(auto)]
+
+mod laws;
+
+pub use laws::{normal_of_a_normal_form, normal_under_new_logical_names, normal_under_new_names};

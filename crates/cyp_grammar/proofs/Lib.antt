@@ -14,3 +14,4 @@ pub mod Enclosures
 pub mod Repeats
 pub mod Wholes
 pub mod Behinds
+pub mod Between

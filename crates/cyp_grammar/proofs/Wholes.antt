@@ -1,7 +1,7 @@
 -- A reader of the front of the lexemes makes one of all of them.
 use Rattle.std.proofs.Common.{◌≡◌, ℕ, suc, Bool, List, [], ◌∷◌, ◌++◌, Result, Ok, Err, inl, inr, refl, sym, ap, subst, ◌∙◌, append_assoc, length, arith}
 use Rattle.cyp_grammar.specs.Lexemes.{Lexeme, Said}
-use Rattle.cyp_grammar.specs.Spelling.{IsEnd, Mark, Match, Then}
+use Rattle.cyp_grammar.specs.Spelling.{IsEnd, Mark, Match}
 use Rattle.cyp_grammar.specs.Readers.{AName, NoName, Read, Stop, Want, ◌>>=◌}
 use Rattle.cyp_grammar.proofs.Spellings.{append_nil}
 use Rattle.cyp_grammar.proofs.Readings.{Avoids, Bars, May, Next, Reads, Sound, Stuck, Took}
@@ -40,6 +40,19 @@ took_end {A} sp f ts x (t ∷ us) h = record {
         further (inl e) = inl e
         further (inr e) = inr e
 
+-- what is barred there is refused
+pub refused_at : {A : Type 0} (sp : A → List Mark) (want : Want) (before rest : List Lexeme) → ((w : List Lexeme) → Bars want rest w → (y : A) → Match (sp y) (before ++ w) → ⊥) → Refused sp before rest
+refused_at sp want before [] no_more = λ y m. no_more [] (bars_end want) y (subst (λ (v : List Lexeme). Match (sp y) v) (sym (append_nil before)) m)
+  where
+    bars_end : (x : Want) → Bars x [] []
+    bars_end AName = tt
+    bars_end NoName = inl tt
+refused_at sp want before (t ∷ us) no_more = λ b. no_more (t ∷ b.1) (bars_same want t us b.1) b.0 (stays sp b.0 before t b.1 b.2)
+  where
+    bars_same : (x : Want) (t : Lexeme) (us w : List Lexeme) → Bars x (t ∷ us) (t ∷ w)
+    bars_same AName t us w = refl
+    bars_same NoName t us w = inl refl
+
 stuck_end : {A : Type 0} (sp : A → List Mark) (s f : Said → Bool) (ts : List Lexeme) (e : Stop) → Stuck A sp s f ts e → IsStop A sp ts e
 stuck_end {A} sp s f ts e h = record {
   before = h.before;
@@ -49,23 +62,11 @@ stuck_end {A} sp s f ts e h = record {
   begins =
       let v = h.viable IsEnd [] refl [] tt in
       (v.1, v.0, v.2);
-  refused = refused_by h.rest (λ w b y m. h.none IsEnd (end_avoids f) w b y m);
+  refused = refused_at sp e.want h.before h.rest (λ w b y m. h.none IsEnd (end_avoids f) w b y m);
   names = λ w i n. named i (subst (λ (x : Want). May x (i ∷ [])) (sym w) (n, refl));
   no_names = λ w i n b. h.none IsEnd (end_avoids f) (i ∷ b.1) (subst (λ (x : Want). Bars x h.rest (i ∷ b.1)) (sym w) (inr n)) b.0 (stays sp b.0 h.before i b.1 b.2);
 }
   where
-    bars_same : (x : Want) (t : Lexeme) (us w : List Lexeme) → Bars x (t ∷ us) (t ∷ w)
-    bars_same AName t us w = refl
-    bars_same NoName t us w = inl refl
-
-    bars_end : (x : Want) → Bars x [] []
-    bars_end AName = tt
-    bars_end NoName = inl tt
-
-    refused_by : (rest : List Lexeme) → ((w : List Lexeme) → Bars e.want rest w → (y : A) → Then (sp y) IsEnd (h.before ++ w) → ⊥) → Refused sp h.before rest
-    refused_by [] no_more = λ y m. no_more [] (bars_end e.want) y (subst (λ (v : List Lexeme). Match (sp y) v) (sym (append_nil h.before)) m)
-    refused_by (t ∷ us) no_more = λ b. no_more (t ∷ b.1) (bars_same e.want t us b.1) b.0 (stays sp b.0 h.before t b.1 b.2)
-
     named : (i : Lexeme) → May e.want (i ∷ []) → Begins sp (h.before ++ i ∷ [])
     named i m =
         let v = h.viable IsEnd [] refl (i ∷ []) m in
@@ -89,3 +90,11 @@ spelled_is_read sp ts (Err s) h y m = absurd (refuses h.rest h.parts h.refused)
     refuses : (rest : List Lexeme) → ts ≡ h.before ++ rest → Refused sp h.before rest → ⊥
     refuses [] e no_more = no_more y (subst (λ (v : List Lexeme). Match (sp y) v) (e ∙ append_nil h.before) m)
     refuses (t ∷ us) e no_more = no_more (y, us, subst (λ (v : List Lexeme). Match (sp y) v) (e ∙ sym (append_assoc h.before (t ∷ []) us)) m)
+
+-- what is read is spelled by one tree at most
+pub spelled_once : {A : Type 0} (sp : A → List Mark) (ts : List Lexeme) (r : Result A Stop) → IsReading sp ts r → (y z : A) → Match (sp y) ts → Match (sp z) ts → y ≡ z
+spelled_once {A} sp ts (Ok x) h y z m n = h.1 y m ∙ sym (h.1 z n)
+spelled_once {A} sp ts (Err s) h y z m n = absurd (differ (spelled_is_read sp ts (Err s) h y m))
+  where
+    differ : Err s ≡ ok_of y → ⊥
+    differ e = cc

@@ -4,3 +4,7 @@ pub mod Goals
 pub mod Limits
 pub mod Formed
 pub mod Stores
+pub mod Instances
+pub mod Assertions
+pub mod PredsFormed
+pub mod Laws

@@ -1,5 +1,9 @@
-pub mod Naming
+pub mod Accepted
+pub mod Bound
 pub mod Companions
-pub mod Statements
 pub mod Compile
+pub mod Correct
+pub mod Laws
+pub mod Naming
 pub mod Narrow
+pub mod Statements

@@ -13,8 +13,6 @@ use Rattle.cyp_step.specs.Mends.{writes_for}
 use Rattle.cyp_step.specs.declared.rule.CallBy.{CallBy}
 use Rattle.cyp_step.specs.declared.rule.Rule.{Rule}
 use Rattle.cyp_step.specs.declared.rule.Rule.TheVariants.{ByAlloc, ByCall, ByClose, ByEmp, ByFrame, ByFree, ByInconsistent, ByOpen, ByPick, ByRead, ByWrite}
-use Rattle.cyp_term.specs.Integers.{pairs}
-use Rattle.cyp_term.specs.Meaning.{value}
 use Rattle.cyp_term.specs.Terms.{apply_term, number_term, var_term}
 use Rattle.cyp_term.specs.declared.lit.Lit.{Lit}
 use Rattle.cyp_term.specs.declared.term.Term.{Term}

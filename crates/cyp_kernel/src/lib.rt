@@ -1,2 +1,9 @@
-//! Derivations of goals, and the program that one stands for: definitions.
+//! Derivations of goals, the program that one stands for, and what it is for a program to be correct:
+//! definitions and laws.
 #![tactic(auto)]
+
+mod laws;
+
+pub use laws::{
+    bound_grows, bound_in_one_line, lower_measure_is_bounded, program_of_derivation_is_closed,
+};

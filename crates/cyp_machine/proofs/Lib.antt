@@ -1,4 +1,10 @@
+pub mod Examples
+pub mod FreeBases
+pub mod Going
+pub mod Halted
 pub mod InputExamples
 pub mod InputLaws
 pub mod Inputs
+pub mod Least
 pub mod LineLaws
+pub mod Options

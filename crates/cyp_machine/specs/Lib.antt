@@ -1,3 +1,10 @@
+pub mod Closed
+pub mod Faults
+pub mod Laws
 pub mod RunInput
 pub mod RunInputLaws
 pub mod RunInputReaders
+pub mod Runs
+pub mod States
+pub mod Steps
+pub mod Values

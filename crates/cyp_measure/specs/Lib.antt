@@ -1,1 +1,2 @@
 pub mod Decrease
+pub mod Levels

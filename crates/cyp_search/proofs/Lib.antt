@@ -8,6 +8,8 @@ pub mod InPlace
 pub mod Items
 pub mod MappedLeaves
 pub mod MappedTrees
+pub mod NumberedStages
+pub mod OneReport
 pub mod PartsLooked
 pub mod ReportProof
 pub mod Views

@@ -83,3 +83,8 @@ report space budget limit root = report_from space limit budget 0 (Leaf 0 root)
 -- law: the report that is computed is that of the least stage that ends the search
 abbrev pub ReportLaw : (R N : Type 0) → Type 0
 ReportLaw R N = (space : Moving R N) (budget limit : ℕ) (root : N) → IsReport space budget limit root (report space budget limit root)
+
+-- law: a search has one report
+abbrev pub OneReportLaw : (R N : Type 0) → Type 0
+OneReportLaw R N =
+    (space : Moving R N) (budget limit : ℕ) (root : N) (r s : PlainReport R N) → IsReport space budget limit root r → IsReport space budget limit root s → r ≡ s

@@ -1,2 +1,9 @@
 //! Specifications as texts: their grammar, what they say, and their faults.
 #![tactic(auto)]
+
+mod laws;
+
+pub use laws::{
+    a_text_has_one_reading, goal_that_is_read_is_formed, lexemes_spell_one_tree,
+    no_text_is_read_and_refused,
+};

@@ -6,3 +6,5 @@ pub mod Mends
 pub mod Calling
 pub mod Step
 pub mod Rows
+pub mod Nodes
+pub mod Laws

@@ -1,4 +1,9 @@
 pub mod Answers
+pub mod Chain
 pub mod Code
 pub mod Given
 pub mod Output
+pub mod Reports
+pub mod RunOutput
+pub mod Synthesis
+pub mod WholeOutput

@@ -59,7 +59,7 @@ impl Answer {
 }
 
 /// The report of the search from the root.
-fn report_of(alloc: Global, root: CellsNode) -> Result<Report<Rule, CellsNode>, NoMemory>
+pub(crate) fn report_of(alloc: Global, root: CellsNode) -> Result<Report<Rule, CellsNode>, NoMemory>
     ensures { IfOk result (λ r. plain_report r ≡ report (goal_space 2) 20000 500000 root) }
 {
     let space = CellsSpace { unfold: 2 };

@@ -1,6 +1,9 @@
 ghost use Rattle.std.specs.Prelude.{◌≡◌, ◌<◌};
 
+use crate::answer::report_of;
 use crate::{Status, run_still};
+use cyp_cell_goal::root_of_text;
+use cyp_cell_text::read_flat;
 use cyp_io::{MemSink, MemSource};
 use cyp_term::{List, NoMemory, Steps};
 use std::alloc::Global;
@@ -12,6 +15,8 @@ const SWAP: &[u8] = b"void swap(loc x, loc y) { x :-> a ** y :-> b } { x :-> b *
 
 const SWAPPED: &[u8] =
     b"void swap(v1, v2) {\n  let v3 = *v1;\n  let v4 = *v2;\n  *v1 = v4;\n  *v2 = v3;\n}\n";
+
+const CONSTANT: &[u8] = b"void f(loc x) { x :-> a } { x :-> 5 }";
 
 const REFUSED: &[u8] = b"refused: NotBuilt at 0\n";
 
@@ -86,7 +91,7 @@ fn flat_texts_are_answered(rt: HostRuntime) -> Result<(), Fail> {
     let alloc = rt.alloc();
     let constant = ending(alloc, Status::Program, b"void f(v1) {\n  *v1 = 5;\n}\n")?;
     assert_eq!(rt;
-        synth(alloc, b"void f(loc x) { x :-> a } { x :-> 5 }")?,
+        synth(alloc, CONSTANT)?,
         constant
     );
     assert_eq!(rt;
@@ -152,6 +157,14 @@ fn words_and_faults_have_their_answers(rt: HostRuntime) -> Result<(), Fail> {
         ending(alloc, Status::ReadFault, b"")?
     );
     assert_eq!(rt;
+        run(alloc, &["synth"], CONSTANT, 10, &[1], &[])?,
+        ending(alloc, Status::ReadFault, b"")?
+    );
+    assert_eq!(rt;
+        run(alloc, &["synth"], CONSTANT, 4, &[], &[1])?,
+        ending(alloc, Status::WriteFault, b"void")?
+    );
+    assert_eq!(rt;
         run(alloc, &["synth"], SWAP, 8, &[], &[0])?,
         ending(alloc, Status::WriteFault, b"")?
     );
@@ -162,6 +175,30 @@ fn words_and_faults_have_their_answers(rt: HostRuntime) -> Result<(), Fail> {
     assert_eq!(rt;
         run(alloc, &["word"], SWAP, 8, &[], &[1])?,
         ending(alloc, Status::WriteFault, b"words re")?
+    );
+    Ok(())
+}
+
+/// How many leaves the search from the text's root expands, where the text is flat.
+fn expansions(alloc: Global, text: &[u8]) -> Result<Option<u32>, NoMemory> {
+    let Some(text) = read_flat(alloc, text)? else {
+        return Ok(None);
+    };
+    let Some(root) = root_of_text(alloc, &text)? else {
+        return Ok(None);
+    };
+    Ok(Some(report_of(alloc, root)?.expansions))
+}
+
+#[test]
+fn searches_end_after_so_many_expansions(rt: HostRuntime) -> Result<(), Fail> {
+    let alloc = rt.alloc();
+    assert_eq!(rt; expansions(alloc, CONSTANT)?, Some(3));
+    assert_eq!(rt; expansions(alloc, SWAP)?, Some(7));
+    assert_eq!(rt; expansions(alloc, b"void f(loc x) { emp } { x :-> 1 }")?, Some(1));
+    assert_eq!(rt;
+        expansions(alloc, b"void f(loc x) { x :-> 1 ** x :-> 2 } { emp }")?,
+        Some(1)
     );
     Ok(())
 }

@@ -3,5 +3,8 @@ pub mod FollowingGrafts
 pub mod FollowingTrees
 pub mod HasDerivation
 pub mod HasLive
+pub mod LaterLeaves
 pub mod Leaves
 pub mod NewNumbers
+pub mod Rising
+pub mod Singles

@@ -5,7 +5,8 @@ mod laws;
 mod status;
 
 pub use laws::{
-    grafted_size_adds_up, grafted_tree_is_numbered, next_leaf_is_one_leaf,
+    decided_tree_stays, grafted_size_adds_up, grafted_tree_is_numbered, grafted_tree_is_rising,
+    live_leaf_is_one_leaf, live_leaf_was_live, new_numbers_are_a_run, next_leaf_is_one_leaf,
     open_tree_has_a_next_leaf, solved_tree_has_a_derivation,
 };
 pub use status::Status;

@@ -1,7 +1,7 @@
 use Rattle.std.proofs.Common.{◌≡◌, ◌∙◌, false, refl, subst, sym}
 use Rattle.cyp_top.specs.Answers.{Answers, End}
-use Rattle.cyp_top.specs.Output.{IsOutputBy, words_refused}
-use Rattle.cyp_top.proofs.Sending.{if_any, sends_answer}
+use Rattle.cyp_top.specs.Output.{words_refused}
+use Rattle.cyp_top.proofs.Sending.{sends_answer, unheard}
 use Rattle.cyp_top.proofs.run.run_still.Goals as goal
 
 pub returns-else-is_synth-clause-answer : goal.returns-else-is_synth-clause-answer
@@ -11,4 +11,4 @@ returns-else-is_synth-clause-answer g c =
     let after : End = record { told = g.K.Sink.taken c.send.new.sink; faults = g.K.Sink.faults c.send.new.sink } in
     subst (λ b. Answers b source source before after c.send.result) (sym c.if-is_synth.false ∙ c.is_synth.ensures)
     (sends_answer false source source before after words_refused c.send.result refl
-    (if_any (λ bytes. IsOutputBy false bytes words_refused) (g.S.Source.left c.args.source.now) (λ bytes. refl)) tt c.send.ensures)
+    (unheard (g.S.Source.left c.args.source.now)) tt c.send.ensures)

@@ -1,9 +1,9 @@
-use Rattle.std.proofs.Common.{subst, sym, true}
+use Rattle.std.proofs.Common.{Some, ap, length, subst, sym, true, ◌∙◌, ◌≤◌}
 use Rattle.std.proofs.lemmas.Option.{IfSome_then}
 use Rattle.cyp_io.specs.Whole.{ReadingCounts, ReadsAll}
 use Rattle.cyp_top.specs.Given.{plain_answer}
 use Rattle.cyp_top.specs.Output.{IsSynthOutput, not_built}
-use Rattle.cyp_top.proofs.Sending.{sends_answer, too_long}
+use Rattle.cyp_top.proofs.Sending.{all_read, sends_answer, too_long}
 use Rattle.cyp_top.proofs.run.synthesise.Goals as goal
 
 pub returns-in-Ok-Long-clause-answer : goal.returns-in-Ok-Long-clause-answer
@@ -17,7 +17,7 @@ returns-in-Ok-Long-clause-answer g c =
     (record { told = g.K.Sink.taken c.args.sink.now; faults = g.K.Sink.faults c.args.sink.now })
     (record { told = g.K.Sink.taken c.send.new.sink; faults = g.K.Sink.faults c.send.new.sink })
     not_built c.send.result (subst (ReadingCounts faults faults') c.in-Ok-Long.field-0-is c.in-Ok-Long.ensures.cause)
-    (IfSome_then left read (λ bytes h. too_long bytes h.0)) tt c.send.ensures
+    (IfSome_then left read (λ bytes h. (h.1, too_long bytes h.0))) tt c.send.ensures
 
 pub returns-clause-answer : goal.returns-clause-answer
 returns-clause-answer g c =
@@ -33,4 +33,4 @@ returns-clause-answer g c =
     (record { told = g.K.Sink.taken c.args.sink.now; faults = g.K.Sink.faults c.args.sink.now })
     (record { told = g.K.Sink.taken c.send-in-Ok.new.sink; faults = g.K.Sink.faults c.send-in-Ok.new.sink })
     o c.send-in-Ok.result (subst (ReadingCounts faults faults') c.in-Ok-Whole.field-0-is c.in-Ok-Whole.ensures.cause)
-    (IfSome_then left read.1 (λ bytes h. subst (λ b. IsSynthOutput b o) (sym h.0) is)) (rw c.status.ensures.value at c.status.ensures.said) sent
+    (IfSome_then left read.1 (λ bytes h. (h.1 ∙ ap Some (sym (all_read bytes (subst (λ b. length b ≤ 65536) (sym h.0) read.0))), subst (λ b. IsSynthOutput b o) (sym h.0) is))) (rw c.status.ensures.value at c.status.ensures.said) sent

@@ -1,0 +1,10 @@
+pub mod Changed
+pub mod FoundWord
+pub mod KindsKeep
+pub mod KindsLeaveWords
+pub mod NewWorker
+pub mod Numbers
+pub mod OwnWord
+pub mod Places
+pub mod Same
+pub mod Start

@@ -1,0 +1,11 @@
+pub mod BoardExample
+pub mod CancelKilled
+pub mod ClaimLists
+pub mod DecidedReport
+pub mod Examples
+pub mod FreshBoard
+pub mod OrderlyClaims
+pub mod Paths
+pub mod Published
+pub mod SettledClaims
+pub mod Steps

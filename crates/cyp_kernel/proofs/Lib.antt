@@ -1,0 +1,6 @@
+pub mod BoundAlone
+pub mod BoundEquation
+pub mod BoundGrowth
+pub mod ClosedPrograms
+pub mod Examples
+pub mod LowerMeasures

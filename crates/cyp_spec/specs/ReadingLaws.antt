@@ -1,0 +1,31 @@
+-- Laws of the reading of texts.
+use Rattle.std.specs.Prelude.{Err, IsTrue, List, Ok, Result, ℕ, ◌≡◌}
+use Rattle.cyp_heap.specs.Formed.{IsFormed}
+use Rattle.cyp_lex.specs.declared.fault.Fault.{Fault}
+use Rattle.cyp_spec.specs.LimitFaults.{is_root_within}
+use Rattle.cyp_grammar.specs.Lexemes.{Lexeme}
+use Rattle.cyp_grammar.specs.Spelling.{Match}
+use Rattle.cyp_spec.specs.Grammar.{text_spelling}
+use Rattle.cyp_spec.specs.Reading.{IsReading}
+use Rattle.cyp_spec.specs.Specifications.{Specification}
+use Rattle.cyp_spec.specs.Trees.{TextTree}
+
+-- lexemes spell at most one tree
+abbrev pub OneTree : Type 0
+OneTree = (ls : List Lexeme) (t u : TextTree) → Match (text_spelling t) ls → Match (text_spelling u) ls → t ≡ u
+
+-- a text has at most one reading
+abbrev pub OneReading : Type 0
+OneReading = (bytes : List ℕ) (r s : Result Specification Fault) → IsReading bytes r → IsReading bytes s → r ≡ s
+
+-- no text is both read and refused
+abbrev pub ReadNotRefused : Type 0
+ReadNotRefused = (bytes : List ℕ) (s : Specification) (f : Fault) → IsReading bytes (Ok s) → IsReading bytes (Err f) → ⊥
+
+-- a text has a reading
+abbrev pub SomeReading : Type 0
+SomeReading = (bytes : List ℕ) → (r : Result Specification Fault) × IsReading bytes r
+
+-- a specification that is read has a formed goal, which is within the limits as it is written and in its normal form
+abbrev pub ReadIsFormed : Type 0
+ReadIsFormed = (bytes : List ℕ) (s : Specification) → IsReading bytes (Ok s) → IsFormed s.preds s.goal × IsTrue (is_root_within s)

@@ -1,0 +1,23 @@
+ghost use Rattle.cyp_spec.specs.ReadingLaws.{OneReading, OneTree, ReadIsFormed, ReadNotRefused, SomeReading};
+
+/// Law: lexemes spell one tree of a specification at most.
+pub fn lexemes_spell_one_tree()
+    ensures { OneTree }
+{}
+
+/// Law: a text has a reading, which is its specification or its one fault, and it has no other.
+pub fn a_text_has_one_reading()
+    ensures some { SomeReading }
+    ensures one { OneReading }
+{}
+
+/// Law: no text is both read and refused.
+pub fn no_text_is_read_and_refused()
+    ensures { ReadNotRefused }
+{}
+
+/// Law: a specification that is read has a formed goal, which is within the limits as it is
+/// written and in its normal form.
+pub fn goal_that_is_read_is_formed()
+    ensures { ReadIsFormed }
+{}

@@ -1,0 +1,10 @@
+pub mod ChunkLists
+pub mod EachRule
+mod Examples
+pub mod FlatRaws
+pub mod GoalWithin
+pub mod OpenedLink
+pub mod Premises
+pub mod RawNodes
+pub mod Root
+pub mod UnfoldedRaws
