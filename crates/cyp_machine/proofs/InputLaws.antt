@@ -10,18 +10,18 @@ use Rattle.cyp_grammar.proofs.Spellings.{then_join, then_put, then_split}
 use Rattle.cyp_grammar.proofs.Wholes.{whole_reads}
 use Rattle.cyp_grammar.specs.Beginnings.{Refused}
 use Rattle.cyp_grammar.specs.Lexemes.{Lexeme, Name, Said}
-use Rattle.cyp_grammar.specs.Readers.{AName, NoName, Read, Stop, Want, is_word}
+use Rattle.cyp_grammar.proofs.Readers.{AName, NoName, Read, Stop, Want, is_word}
 use Rattle.cyp_grammar.specs.Spelling.{IsEnd, Mark, Match, Then}
-use Rattle.cyp_grammar.specs.Stops.{whole_of}
+use Rattle.cyp_grammar.proofs.Stops.{whole_of}
 use Rattle.cyp_lex.specs.declared.token.Word.TheVariants.{Void}
 use Rattle.cyp_machine.proofs.LineLaws.{line_reads}
 use Rattle.cyp_machine.specs.RunInput.{InputTree, StartTree, input_spelling, line_spelling, start_spelling}
-use Rattle.cyp_machine.specs.RunInputReaders.{line_at}
+use Rattle.cyp_machine.proofs.RunInputReaders.{line_at}
 use Rattle.cyp_prog.proofs.Decided.{Decision, Stopped, decided}
 use Rattle.cyp_prog.proofs.Exact.{end_avoids, reads_exact}
 use Rattle.cyp_prog.proofs.ProgramLaws.{program_reads}
 use Rattle.cyp_prog.specs.Grammar.{program_spelling}
-use Rattle.cyp_prog.specs.StmtReaders.{program_at}
+use Rattle.cyp_prog.proofs.StmtReaders.{program_at}
 use Rattle.cyp_prog.specs.Trees.{ProgramTree}
 
 input_is : (x y : InputTree) → x.program ≡ y.program → x.start ≡ y.start → x ≡ y

@@ -8,3 +8,4 @@ pub mod Inputs
 pub mod Least
 pub mod LineLaws
 pub mod Options
+pub mod RunInputReaders

@@ -10,12 +10,12 @@ use Rattle.cyp_grammar.proofs.Sequences.{both_reads, spell_both}
 use Rattle.cyp_grammar.proofs.Singles.{one}
 use Rattle.cyp_grammar.proofs.Tellers.{ident_reads, placed_mark, placed_number_reads, sign_listing_reads, sign_mark, sign_reads, word_mark, word_reads}
 use Rattle.cyp_grammar.specs.Lexemes.{Number, Reserved, Symbol}
-use Rattle.cyp_grammar.specs.Readers.{NoName, is_name, is_number, is_sign, is_word, one_of}
+use Rattle.cyp_grammar.proofs.Readers.{NoName, is_name, is_number, is_sign, is_word, one_of}
 use Rattle.cyp_grammar.specs.Spelling.{Mark, ident, sign}
 use Rattle.cyp_lex.specs.declared.token.Sign.TheVariants.{Comma, LeftBrace, LeftBracket, LeftParen, Minus, PointsTo, RightBrace, RightBracket, RightParen, TwoStars}
 use Rattle.cyp_lex.specs.declared.token.Word.TheVariants.{Emp}
 use Rattle.cyp_machine.specs.RunInput.{BlockPiece, CellPiece, NumTree, PieceTree, StartTree, args_spelling, line_spelling, num_spelling, piece_spelling, pieces_spelling}
-use Rattle.cyp_machine.specs.RunInputReaders.{AnyNum, SomeBlock, SomeCell, SomeLine, args_at, begins_num, begins_piece, block_at, cell_at, line_at, line_tree, num_at, num_tree, piece_at, piece_tree, pieces_at, pieces_tree, some_pieces}
+use Rattle.cyp_machine.proofs.RunInputReaders.{AnyNum, SomeBlock, SomeCell, SomeLine, args_at, begins_num, begins_piece, block_at, cell_at, line_at, line_tree, num_at, num_tree, piece_at, piece_tree, pieces_at, pieces_tree, some_pieces}
 
 -- ---- numbers
 

@@ -3,7 +3,6 @@ pub mod Faults
 pub mod Laws
 pub mod RunInput
 pub mod RunInputLaws
-pub mod RunInputReaders
 pub mod Runs
 pub mod States
 pub mod Steps

@@ -50,6 +50,7 @@ pub record InputTree : Type 0 where
 abbrev pub num_spelling : NumTree → List Mark
 num_spelling t = cond t.minus (sign Minus ∷ At (Number t.n) t.place ∷ []) (At (Number t.n) t.place ∷ [])
 
+-- a block in brackets, or a cell with its content
 abbrev pub piece_spelling : PieceTree → List Mark
 piece_spelling (BlockPiece p b q n) = sign LeftBracket ∷ At (Number b) p ∷ sign Comma ∷ At (Number n) q ∷ sign RightBracket ∷ []
 piece_spelling (CellPiece p a t) = At (Number a) p ∷ sign PointsTo ∷ num_spelling t
@@ -59,6 +60,7 @@ abbrev pub pieces_spelling : List PieceTree → List Mark
 pieces_spelling [] = word Emp ∷ []
 pieces_spelling (p ∷ ps) = list_spelling (Symbol TwoStars) piece_spelling p ps
 
+-- the arguments with a comma between each two
 abbrev pub args_spelling : List NumTree → List Mark
 args_spelling ts = separated (Symbol Comma) num_spelling ts
 
@@ -71,6 +73,7 @@ line_spelling t =
 abbrev pub start_spelling : StartTree → List Mark
 start_spelling t = Any (Name (codes "start")) ∷ line_spelling t
 
+-- a program, and then the start line
 abbrev pub input_spelling : InputTree → List Mark
 input_spelling t = program_spelling t.program ++ start_spelling t.start
 
@@ -104,6 +107,7 @@ input_faults t = program_faults t.program ++ start_faults (procs_of t.program) t
 
 -- ---- what an input says
 
+-- the integer that a number says, negative behind a minus
 abbrev pub num_of : NumTree → ℤ
 num_of t = cond t.minus (neg_ℤ (pos t.n)) (pos t.n)
 
@@ -130,6 +134,7 @@ pub record RunInput : Type 0 where
   pub args : List ℤ
   pub store : Store
 
+-- the input that a tree says
 abbrev pub input_of : InputTree → RunInput
 input_of t = record {
   program = program_of_tree t.program;
@@ -140,6 +145,7 @@ input_of t = record {
 
 -- ---- readings
 
+-- inputs of runs as texts
 abbrev pub input_syntax : Syntax InputTree RunInput
 input_syntax = record { spelling = input_spelling; faults = input_faults; said = input_of }
 

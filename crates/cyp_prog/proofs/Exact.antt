@@ -2,7 +2,7 @@
 use Rattle.std.proofs.Common.{◌≡◌, ◌∙◌, Err, List, Ok, [], ◌∷◌, arith, inl, length, refl, subst, suc, sym, Bool, ℕ}
 use Rattle.cyp_grammar.proofs.Readings.{Avoids, Bars, Reads, SameHead, Sound}
 use Rattle.cyp_grammar.specs.Lexemes.{Lexeme, Said}
-use Rattle.cyp_grammar.specs.Readers.{AName, NoName, Read, Want}
+use Rattle.cyp_grammar.proofs.Readers.{AName, NoName, Read, Want}
 use Rattle.cyp_grammar.specs.Spelling.{IsEnd, Mark, Then}
 
 -- the rest of the lexemes is allowed by both

@@ -2,9 +2,11 @@ pub mod Decided
 pub mod Exact
 pub mod Examples
 pub mod ExprLaws
+pub mod ExprReaders
 pub mod GrammarFaults
 pub mod ProgramLaws
 pub mod Programs
 pub mod Readings
 pub mod Shallow
 pub mod StmtLaws
+pub mod StmtReaders

@@ -9,17 +9,17 @@ use Rattle.cyp_grammar.proofs.Singles.{one}
 use Rattle.cyp_grammar.proofs.Tellers.{ident_reads, sign_mark, sign_reads, word_mark, word_reads}
 use Rattle.cyp_grammar.proofs.Wholes.{whole_reads}
 use Rattle.cyp_grammar.specs.Lexemes.{Lexeme, Symbol, Variable}
-use Rattle.cyp_grammar.specs.Readers.{NoName, is_sign, is_word, one_of}
+use Rattle.cyp_grammar.proofs.Readers.{NoName, is_sign, is_word, one_of}
 use Rattle.cyp_grammar.specs.Spelling.{IsEnd, Mark, Match, Then, ident, sign, word}
-use Rattle.cyp_grammar.specs.Stops.{IsReading, whole_of}
+use Rattle.cyp_grammar.proofs.Stops.{IsReading, whole_of}
 use Rattle.cyp_lex.specs.declared.token.Sign.TheVariants.{Comma, LeftBrace, LeftParen, RightParen}
 use Rattle.cyp_lex.specs.declared.token.Word.TheVariants.{Void}
 use Rattle.cyp_prog.proofs.Exact.{end_avoids, reads_exact}
 use Rattle.cyp_prog.proofs.ExprLaws.{variable_reads}
 use Rattle.cyp_prog.proofs.StmtLaws.{block_reads, closed_block}
-use Rattle.cyp_prog.specs.ExprReaders.{is_variable}
+use Rattle.cyp_prog.proofs.ExprReaders.{is_variable}
 use Rattle.cyp_prog.specs.Grammar.{param_spelling, params_spelling, proc_spelling, program_spelling}
-use Rattle.cyp_prog.specs.StmtReaders.{SomeProc, params_at, proc_at, proc_tree, program_at, program_in, program_tree}
+use Rattle.cyp_prog.proofs.StmtReaders.{SomeProc, params_at, proc_at, proc_tree, program_at, program_in, program_tree}
 use Rattle.cyp_prog.specs.Trees.{ProcTree, ProgramTree, VarTree}
 
 -- ---- procedures

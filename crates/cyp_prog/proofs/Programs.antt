@@ -1,6 +1,6 @@
 -- Laws of programs as texts.
 use Rattle.std.proofs.Common.{Err, Ok}
-use Rattle.cyp_grammar.specs.Stops.{whole_of}
+use Rattle.cyp_grammar.proofs.Stops.{whole_of}
 use Rattle.cyp_prog.proofs.Decided.{decided, has_reading}
 use Rattle.cyp_prog.proofs.ProgramLaws.{one_program, program_is_read}
 use Rattle.cyp_prog.proofs.Readings.{reading_once}
@@ -8,7 +8,7 @@ use Rattle.cyp_prog.specs.Grammar.{program_spelling}
 use Rattle.cyp_prog.specs.Laws.{OneReading, OneTree, ReadIsNotRefused, SomeReading}
 use Rattle.cyp_prog.specs.Programs.{Procedure}
 use Rattle.cyp_prog.specs.Reading.{program_syntax}
-use Rattle.cyp_prog.specs.StmtReaders.{program_at}
+use Rattle.cyp_prog.proofs.StmtReaders.{program_at}
 use Rattle.cyp_prog.specs.Trees.{ProgramTree}
 use Rattle.std.specs.Prelude.{List}
 

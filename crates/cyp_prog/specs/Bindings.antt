@@ -72,6 +72,7 @@ abbrev pub param_faults : ℕ → List VarTree → List ProgFault
 param_faults k [] = []
 param_faults k (v ∷ vs) = binder_faults k v ++ param_faults (suc k) vs
 
+-- the faults of a procedure: of its parameters, and of its body where these are bound
 abbrev pub proc_faults : List ProcTree → ProcTree → List ProgFault
 proc_faults qs q = param_faults 1 q.params ++ block_faults qs (length q.params) q.body
 

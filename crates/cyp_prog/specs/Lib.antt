@@ -10,5 +10,3 @@ pub mod Nesting
 pub mod Passes
 pub mod Reading
 pub mod Laws
-pub mod ExprReaders
-pub mod StmtReaders

@@ -1,6 +1,8 @@
 pub mod ArgLaws
 pub mod BodyLaws
+pub mod BodyReaders
 pub mod ChunkLaws
+pub mod ChunkReaders
 pub mod ClauseTerms
 pub mod Decided
 pub mod Distinct
@@ -25,6 +27,7 @@ pub mod IntLaws
 pub mod ItemLaws
 pub mod KnownSorts
 pub mod LitLaws
+pub mod LitReaders
 pub mod Names
 pub mod NamesAllowed
 pub mod NotLaws
@@ -37,6 +40,8 @@ pub mod Scopes
 pub mod SetLaws
 pub mod Spoils
 pub mod StopsAt
+pub mod TermReaders
 pub mod TextLaws
 pub mod TextOrder
+pub mod TextReaders
 pub mod Unique

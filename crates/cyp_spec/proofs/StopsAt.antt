@@ -2,11 +2,11 @@
 use Rattle.std.proofs.Common.{Err, List, Result, [], ap, append-nil, arith, length, length-append, refl, subst, sym, ℕ, ◌++◌, ◌∙◌, ◌∷◌, ◌≡◌}
 use Rattle.cyp_grammar.specs.Beginnings.{Begins, IsRefusedAt, IsUnfinished, Refused}
 use Rattle.cyp_grammar.specs.Lexemes.{Lexeme, Number}
-use Rattle.cyp_grammar.specs.Readers.{AName, NoName, Stop}
-use Rattle.cyp_grammar.specs.Stops.{IsReading, IsStop, whole_of}
+use Rattle.cyp_grammar.proofs.Readers.{AName, NoName, Stop}
+use Rattle.cyp_grammar.proofs.Stops.{IsReading, IsStop, whole_of}
 use Rattle.cyp_spec.specs.Grammar.{text_spelling}
 use Rattle.cyp_spec.specs.GrammarFaults.{AllowsName, EndsInFirstNumber, name_at}
-use Rattle.cyp_spec.specs.TextReaders.{text_at}
+use Rattle.cyp_spec.proofs.TextReaders.{text_at}
 use Rattle.cyp_spec.specs.Trees.{TextTree}
 use Rattle.cyp_spec.proofs.Decided.{reading}
 use Rattle.cyp_spec.proofs.Parted.{one_last}
