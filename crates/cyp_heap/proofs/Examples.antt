@@ -21,45 +21,8 @@ use Rattle.cyp_term.specs.declared.lit.Lit.TheVariants.{Eq, Ne, Same}
 use Rattle.cyp_term.specs.declared.lit.SetTerm.{SetTerm}
 use Rattle.cyp_term.specs.declared.term.Sort.TheVariants.{Int, Set}
 use Rattle.cyp_term.specs.declared.term.Term.{Term}
+use Rattle.cyp_heap.proofs.Short.{X, block, cons, lists, nil, num, sll}
 use Rattle.cyp_heap.proofs.Unions.{beside_nothing, empty_beside, nothing_beside, one_beside}
-
-abbrev int : ℕ → Term
-int n = var_term (record { sort = Int; number = n })
-
-abbrev set : ℕ → SetTerm
-set n = set_var (record { sort = Set; number = n })
-
--- x == 0 => { s =i {} ; emp }
-abbrev nil : Clause
-nil = record {
-  guard = Eq (int 0) (number_term (pos 0));
-  lits = Same (set 0) (record { vars = []; elems = [] }) ∷ [];
-  heap = record { chunks = [] };
-  ints = 1;
-  sets = 1;
-}
-
--- not (x == 0) => { s =i {v} ++ t ; [x, 2] ** x :-> v ** (x + 1) :-> n ** sll(n, t) }
-abbrev cons : Clause
-cons = record {
-  guard = Ne (int 0) (number_term (pos 0));
-  lits = Same (set 0) (record { vars = (record { sort = Set; number = 1 }) ∷ []; elems = int 1 ∷ [] }) ∷ [];
-  heap = record {
-    chunks = Inst (record { pred = 0; args = IntArg (int 2) ∷ SetArg (set 1) ∷ []; card = None; tag = 0 })
-        ∷ Block (record { at = int 0; size = 2 })
-        ∷ Cell (record { at = int 0; content = int 1 })
-        ∷ Cell (record { at = plus (int 0) (pos 1); content = int 2 })
-        ∷ [];
-  };
-  ints = 3;
-  sets = 2;
-}
-
-abbrev sll : Pred
-sll = record { name = 115 ∷ 108 ∷ 108 ∷ []; params = Int ∷ Set ∷ []; clauses = nil ∷ cons ∷ [] }
-
-abbrev lists : Preds
-lists = record { list = sll ∷ [] }
 
 apart : none_overlap (clause_guards sll) ≡ true
 unfolding joined eliminate eliminate_all feasible both all_cases ints_fit arrangements class_literals arrangement_fits satisfiable regions_fit all_terms all_set_vars
@@ -162,10 +125,10 @@ list_of_one = (
 -- ---- what isn't formed
 
 -- two guards that can both hold
-not_apart : none_overlap (Eq (int 0) (int 0) ∷ Ne (int 0) (int 1) ∷ []) ≡ false
+not_apart : none_overlap (Eq (X 0) (X 0) ∷ Ne (X 0) (X 1) ∷ []) ≡ false
 unfolding joined eliminate eliminate_all feasible both all_cases ints_fit arrangements class_literals arrangement_fits satisfiable regions_fit all_terms all_set_vars
 not_apart = refl
 
 -- an instance beside a block, without a cell
-unproductive : is_productive (record cons { heap = record { chunks = Inst (record { pred = 0; args = []; card = None; tag = 0 }) ∷ Block (record { at = int 0; size = 2 }) ∷ [] } }) ≡ false
+unproductive : is_productive (record cons { heap = record { chunks = Inst (record { pred = 0; args = []; card = None; tag = 0 }) ∷ block (X 0) 2 ∷ [] } }) ≡ false
 unproductive = refl
