@@ -1,3 +1,4 @@
+mod Examples
 pub mod LinksCards
 pub mod LinksFit
 pub mod LinksNormal
