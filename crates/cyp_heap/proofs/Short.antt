@@ -59,9 +59,12 @@ cell a v = Cell (record { at = a; content = v })
 abbrev pub block : Term → ℕ → Chunk
 block a n = Block (record { at = a; size = n })
 
--- an instance of the first predicate, at this address and with these members
+-- an instance of the first predicate, unfolded this often, at this address and with these members
+abbrev pub list_tagged : ℕ → Term → SetTerm → Option Var → Chunk
+list_tagged t a u c = Inst (record { pred = 0; args = IntArg a ∷ SetArg u ∷ []; card = c; tag = t })
+
 abbrev pub list_at : Term → SetTerm → Option Var → Chunk
-list_at a u c = Inst (record { pred = 0; args = IntArg a ∷ SetArg u ∷ []; card = c; tag = 0 })
+list_at a u c = list_tagged 0 a u c
 
 -- ---- lists with their sets of contents
 

@@ -1,6 +1,7 @@
 pub mod ChunkLists
 pub mod EachRule
 mod Examples
+pub mod ExamplesDispose
 pub mod FlatRaws
 pub mod GoalWithin
 pub mod OpenedLink
