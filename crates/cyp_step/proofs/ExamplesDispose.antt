@@ -111,4 +111,40 @@ call_ends : renamed_premises called ByEmp ≡ Some []
 unfolding joined eliminate eliminate_all feasible both all_cases ints_fit arrangements class_literals arrangement_fits satisfiable entailed regions_fit all_terms all_set_vars
 call_ends = refl
 
--- the companion isn't callable at once: its measure has not fallen
+-- ---- the companion
+
+-- the rest of the list is paired with the whole, and the call needs no store
+abbrev pub rest_match : Match
+rest_match = record {
+  pairs = 0 ∷ [];
+  by = record { ints = record { var = x 0; to = X 2 } ∷ record { var = k 0; to = K 0 } ∷ []; sets = record { var = s 0; to = S 0 } ∷ [] };
+  need = [];
+  mends = [];
+}
+
+one_match : matches read_twice (cons_link 1) ≡ rest_match ∷ []
+one_match = refl
+
+that_match : match_at read_twice (cons_link 1) (0 ∷ []) ≡ Some rest_match
+that_match = refl
+
+no_pairs : match_at read_twice (cons_link 1) [] ≡ None
+no_pairs = refl
+
+no_stores : writes_for read_twice.goal rest_match ≡ Some []
+unfolding joined eliminate eliminate_all feasible both all_cases ints_fit arrangements class_literals arrangement_fits satisfiable entailed regions_fit all_terms all_set_vars
+no_stores = refl
+
+not_dead : dead read_twice.goal ≡ false
+unfolding joined eliminate eliminate_all feasible both all_cases ints_fit arrangements class_literals arrangement_fits satisfiable entailed regions_fit all_terms all_set_vars
+not_dead = refl
+
+-- before both reads the address of the rest has no name
+nameless : renamed_premises read_once (ByCall call_rest) ≡ None
+unfolding joined eliminate eliminate_all feasible both all_cases ints_fit arrangements class_literals arrangement_fits satisfiable entailed regions_fit all_terms all_set_vars
+nameless = refl
+
+-- a call on the list itself isn't allowed, for its cardinality isn't below its own
+no_descent : renamed_premises (record dispose { links = root_link (K 0 ∷ []) (record { ints = []; sets = [] }) ∷ [] }) (ByCall call_rest) ≡ None
+unfolding joined eliminate eliminate_all feasible both all_cases ints_fit arrangements class_literals arrangement_fits satisfiable entailed regions_fit all_terms all_set_vars
+no_descent = refl

@@ -2,6 +2,8 @@ pub mod ChunkLists
 pub mod EachRule
 mod Examples
 pub mod ExamplesDispose
+mod ExamplesSteps
+pub mod ExamplesStores
 pub mod FlatRaws
 pub mod GoalWithin
 pub mod OpenedLink
