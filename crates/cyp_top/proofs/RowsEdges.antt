@@ -106,7 +106,7 @@ risings = record {
 }
 
 -- void f(loc x, int n) { b == a + 2147483648 && a == n + 2147483648 && c <= b ; up(x, n) } { emp }, with this number
-abbrev pub rising : ℕ → Node
+abbrev rising : ℕ → Node
 rising d = node risings (x 0 ∷ x 1 ∷ []) [] (Eq (X 2) (X+ 3 d) ∷ Eq (X 3) (X+ 1 d) ∷ Le (X 4) (X 2) ∷ []) (Inst (record { pred = 0; args = IntArg (X 0) ∷ IntArg (X 1) ∷ []; card = Some (k 0); tag = 0 }) ∷ []) [] []
 
 -- c <= n + 2 gives c <= m + 2 for the m above n, so the rest is freed by a call
@@ -118,3 +118,8 @@ small_called = refl
 wide_not_called : trace 4 (rising 2147483648) ≡ (ByOpen 0 ∷ []) ∷ (ByEmp ∷ []) ∷ (ByRead 2 ∷ []) ∷ (ByFree 1 ∷ ByOpen 0 ∷ []) ∷ []
 unfolding digits joined eliminate eliminate_all feasible both all_cases ints_fit arrangements class_literals arrangement_fits satisfiable entailed regions_fit all_terms all_set_vars
 wide_not_called = refl
+
+-- so nothing frees the whole list
+wide_no_program : run 60 (codes "f") (rising 2147483648) ≡ (output (codes "no program\n") NoProgram, 15, 15, 6)
+unfolding digits joined eliminate eliminate_all feasible both all_cases ints_fit arrangements class_literals arrangement_fits satisfiable entailed regions_fit all_terms all_set_vars
+wide_no_program = refl
