@@ -1,6 +1,5 @@
 -- Short forms for worked examples, and the goals that they are about.
 use Rattle.std.proofs.Common.{ℕ, pos, List, [], ◌∷◌, Option, Some, None}
-use Rattle.cyp_heap.specs.declared.chunk.Arg.{Arg}
 use Rattle.cyp_heap.specs.declared.chunk.Arg.TheVariants.{Int as IntArg, Set as SetArg}
 use Rattle.cyp_heap.specs.declared.chunk.Chunk.{Chunk}
 use Rattle.cyp_heap.specs.declared.chunk.Chunk.TheVariants.{Block, Cell, Inst}

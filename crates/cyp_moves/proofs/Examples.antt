@@ -14,7 +14,7 @@ use Rattle.cyp_term.specs.Regions.{all_set_vars, all_terms, regions_fit}
 use Rattle.cyp_unfold.specs.UnfoldRows.{close_rows, open_rows}
 use Rattle.cyp_heap.proofs.Short.{dispose, from_nothing, left_as_is, two_at_one, write_five}
 use Rattle.cyp_step.proofs.ExamplesDispose.{call_rest, called, cons_node, freed, nil_node, read_once, read_twice}
-use Rattle.cyp_step.proofs.ExamplesStores.{read_behind}
+use Rattle.cyp_step.proofs.ExamplesStores.{call_by, read_behind}
 
 -- the rules of rows, in order
 abbrev rules : List Row → List Rule
@@ -23,10 +23,6 @@ rules rs = map (λ (r : Row). r.rule) rs
 -- the rules of the moves with two unfoldings, each with its cost
 abbrev priced : Node → List (Rule × ℕ)
 priced n = map (λ (a : AltOf Rule Node). (a.rule, a.cost)) (moves_of_kinds is_any 2 n)
-
--- the list's rest and this cell are handed on
-abbrev call_by : ℕ → Rule
-call_by place = ByCall (record { link = 0; pairs = 0 ∷ place ∷ [] })
 
 -- ---- rows
 
@@ -67,7 +63,7 @@ unfolding joined eliminate eliminate_all feasible both all_cases ints_fit arrang
 one_call = refl
 
 -- the cell of the call may be any of three
-three_calls : rules (call_rows read_behind) ≡ call_by 2 ∷ call_by 3 ∷ call_by 4 ∷ []
+three_calls : rules (call_rows read_behind) ≡ ByCall (call_by 2) ∷ ByCall (call_by 3) ∷ ByCall (call_by 4) ∷ []
 unfolding joined eliminate eliminate_all feasible both all_cases ints_fit arrangements class_literals arrangement_fits satisfiable entailed regions_fit all_terms all_set_vars
 three_calls = refl
 

@@ -1,9 +1,10 @@
 -- A list freed, rule by rule: the nodes from the root to the end, and the program variables' names before the normal form.
 use Rattle.std.proofs.Common.{◌≡◌, ℕ, List, [], ◌∷◌, map, Option, Some, None, false, refl}
+use Rattle.cyp_goal.specs.Normal.{Renaming}
+use Rattle.cyp_heap.specs.Limits.{node_units}
 use Rattle.cyp_heap.specs.declared.chunk.Chunk.{Chunk}
 use Rattle.cyp_heap.specs.declared.goal.Link.{Link}
 use Rattle.cyp_heap.specs.declared.goal.Node.{Node}
-use Rattle.cyp_goal.specs.Normal.{Renaming}
 use Rattle.cyp_step.specs.Mends.{writes_for}
 use Rattle.cyp_step.specs.Shown.{dead}
 use Rattle.cyp_step.specs.Step.{renamed_premises}
@@ -134,6 +135,9 @@ no_pairs = refl
 no_stores : writes_for read_twice.goal rest_match ≡ Some []
 unfolding joined eliminate eliminate_all feasible both all_cases ints_fit arrangements class_literals arrangement_fits satisfiable entailed regions_fit all_terms all_set_vars
 no_stores = refl
+
+units : node_units read_twice ≡ 34
+units = refl
 
 not_dead : dead read_twice.goal ≡ false
 unfolding joined eliminate eliminate_all feasible both all_cases ints_fit arrangements class_literals arrangement_fits satisfiable entailed regions_fit all_terms all_set_vars

@@ -33,7 +33,7 @@ behind_link card sets = record {
   tuple = K card ∷ [];
 }
 
-abbrev nothing_behind : Node
+abbrev pub nothing_behind : Node
 nothing_behind = record (node lists (x 0 ∷ x 1 ∷ []) [] (Lt (num 0) (X 0) ∷ Eq (X 1) (num 0) ∷ []) (cell (X 0) (X 1) ∷ []) [] (cell (X 0) (num 0) ∷ [])) {
   links = behind_link 0 [] ∷ [];
 }
@@ -48,17 +48,17 @@ cons_behind program members chunks all = record (node lists program [] (Lt (num 
 abbrev cons_cells : ℕ → ℕ → List Chunk
 cons_cells content rest = list_tagged 1 (X rest) (S 0) (Some (k 0)) ∷ block (X 1) 2 ∷ cell (X 0) (X 1) ∷ cell (X 1) (X content) ∷ cell (X+ 1 1) (X rest) ∷ []
 
-abbrev opened : Node
+abbrev pub opened : Node
 opened = cons_behind (x 0 ∷ x 1 ∷ []) (Same (S 1) (with_elem (X 3) 0)) (cons_cells 3 2) 1
 
-abbrev read : Node
+abbrev pub read : Node
 read = cons_behind (x 0 ∷ x 1 ∷ x 2 ∷ []) (Same (S 1) (with_elem (X 2) 0)) (cons_cells 2 3) 1
 
 abbrev pub read_behind : Node
 read_behind = cons_behind (x 0 ∷ x 1 ∷ x 2 ∷ x 3 ∷ []) (Same (S 1) (with_elem (X 2) 0)) (cons_cells 2 3) 1
 
 -- the companion's own cell comes back, and the opened list's chunks are left
-abbrev after_call : Node
+abbrev pub after_call : Node
 after_call = cons_behind (x 0 ∷ x 1 ∷ x 2 ∷ x 3 ∷ []) (Same (S 0) (with_elem (X 2) 1)) (block (X 1) 2 ∷ cell (X 1) (X 2) ∷ cell (X+ 1 1) (X 3) ∷ cell (X 0) (num 0) ∷ []) 0
 
 opens : premises behind (ByOpen 0) ≡ Some (nothing_behind ∷ opened ∷ [])
@@ -98,7 +98,7 @@ unfolding joined eliminate eliminate_all feasible both all_cases ints_fit arrang
 stored_already = refl
 
 -- the call by the first of them
-abbrev call_by : ℕ → CallBy
+abbrev pub call_by : ℕ → CallBy
 call_by place = record { link = 0; pairs = 0 ∷ place ∷ [] }
 
 called : premises read_behind (ByCall (call_by 2)) ≡ Some (after_call ∷ [])
