@@ -1,17 +1,15 @@
 -- Normal forms and facts, computed.
-use Rattle.std.proofs.Common.{◌≡◌, ℕ, pos, List, [], ◌∷◌, map, Some, None, refl}
+use Rattle.std.proofs.Common.{◌≡◌, ℕ, List, [], ◌∷◌, map, Some, None, refl}
 use Rattle.cyp_goal.specs.Facts.{facts}
-use Rattle.cyp_goal.specs.Normal.{Renaming, normal}
+use Rattle.cyp_goal.specs.Normal.{normal}
 use Rattle.cyp_heap.specs.declared.chunk.Chunk.{Chunk}
-use Rattle.cyp_heap.specs.declared.goal.Link.{Link}
 use Rattle.cyp_heap.specs.declared.goal.Node.{Node}
 use Rattle.cyp_term.specs.declared.lit.Lit.{Lit}
 use Rattle.cyp_term.specs.declared.lit.Lit.TheVariants.{Eq, Le, Lt, Ne, Same}
 use Rattle.cyp_term.specs.declared.subst.IntBind.{IntBind}
-use Rattle.cyp_term.specs.declared.subst.Subst.{Subst}
 use Rattle.cyp_term.specs.declared.term.Term.{Term}
 use Rattle.cyp_term.specs.declared.term.Var.{Var}
-use Rattle.cyp_heap.proofs.Short.{K, S, X, X+, block, cell, dispose, k, no_members, no_preds, node, num, swap, two_at_one, with_elem, write_five, x}
+use Rattle.cyp_heap.proofs.Short.{K, S, X, X+, block, cell, dispose, no_preds, node, num, swap, two_at_one, with_elem, write_five, x}
 
 -- a node whose pre has one cell, at the first program variable
 abbrev one_cell : List Var → List Lit → Term → Node

@@ -1,16 +1,13 @@
 -- Frames, and companions that lie in a node, computed.
-use Rattle.std.proofs.Common.{◌≡◌, ℕ, pos, List, [], ◌∷◌, map, Option, Some, None, refl}
+use Rattle.std.proofs.Common.{◌≡◌, ℕ, pos, List, [], ◌∷◌, Option, Some, None, refl}
 use Rattle.std.specs.Prelude.{neg_ℤ}
 use Rattle.cyp_heap.specs.declared.chunk.Chunk.{Chunk}
 use Rattle.cyp_heap.specs.declared.goal.Link.{Link}
 use Rattle.cyp_heap.specs.declared.goal.Node.{Node}
 use Rattle.cyp_term.specs.Terms.{plus}
 use Rattle.cyp_term.specs.declared.lit.Lit.TheVariants.{Eq, Same}
-use Rattle.cyp_term.specs.declared.subst.IntBind.{IntBind}
-use Rattle.cyp_term.specs.declared.subst.SetBind.{SetBind}
 use Rattle.cyp_term.specs.declared.subst.Subst.{Subst}
 use Rattle.cyp_term.specs.declared.term.Term.{Term}
-use Rattle.cyp_term.specs.declared.term.Var.{Var}
 use Rattle.cyp_unify.specs.Frames.{frame_pairs}
 use Rattle.cyp_unify.specs.Matches.{match_at, matches}
 use Rattle.cyp_unify.specs.declared.found.Match.{Match}
