@@ -1,6 +1,5 @@
 -- A list freed, rule by rule: the nodes from the root to the end, and the program variables' names before the normal form.
-use Rattle.std.proofs.Common.{◌≡◌, ℕ, List, [], ◌∷◌, map, Option, Some, None, false, refl}
-use Rattle.cyp_goal.specs.Normal.{Renaming}
+use Rattle.std.proofs.Common.{◌≡◌, ℕ, List, [], ◌∷◌, Some, None, false, refl}
 use Rattle.cyp_heap.specs.Limits.{node_units}
 use Rattle.cyp_heap.specs.declared.chunk.Chunk.{Chunk}
 use Rattle.cyp_heap.specs.declared.goal.Link.{Link}
@@ -13,7 +12,6 @@ use Rattle.cyp_step.specs.declared.rule.Rule.TheVariants.{ByCall, ByEmp, ByFree,
 use Rattle.cyp_term.specs.Entailment.{arrangement_fits, arrangements, class_literals, entailed, satisfiable}
 use Rattle.cyp_term.specs.Integers.{all_cases, both, eliminate, eliminate_all, feasible, ints_fit, joined}
 use Rattle.cyp_term.specs.Regions.{all_set_vars, all_terms, regions_fit}
-use Rattle.cyp_term.specs.Terms.{set_var, var_term}
 use Rattle.cyp_term.specs.declared.lit.Lit.{Lit}
 use Rattle.cyp_term.specs.declared.lit.Lit.TheVariants.{Eq, Lt, Ne, Same}
 use Rattle.cyp_term.specs.declared.subst.Subst.{Subst}

@@ -1,7 +1,6 @@
 -- What is shown at a goal, dead goals, and single steps, computed.
-use Rattle.std.proofs.Common.{◌≡◌, ℕ, pos, List, [], ◌∷◌, Option, Some, None, true, false, refl}
+use Rattle.std.proofs.Common.{◌≡◌, List, [], ◌∷◌, Some, None, true, false, refl}
 use Rattle.cyp_heap.specs.declared.chunk.Chunk.{Chunk}
-use Rattle.cyp_heap.specs.declared.goal.Goal.{Goal}
 use Rattle.cyp_heap.specs.declared.goal.Node.{Node}
 use Rattle.cyp_step.specs.Shown.{dead, shown}
 use Rattle.cyp_step.specs.Step.{premises}
@@ -9,11 +8,9 @@ use Rattle.cyp_step.specs.declared.rule.Rule.TheVariants.{ByAlloc, ByClose, ByEm
 use Rattle.cyp_term.specs.Entailment.{arrangement_fits, arrangements, class_literals, entailed, satisfiable}
 use Rattle.cyp_term.specs.Integers.{all_cases, both, eliminate, eliminate_all, feasible, ints_fit, joined}
 use Rattle.cyp_term.specs.Regions.{all_set_vars, all_terms, regions_fit}
-use Rattle.cyp_term.specs.declared.lit.Lit.{Lit}
-use Rattle.cyp_term.specs.declared.lit.Lit.TheVariants.{Eq, Le, Lt, Ne, Same}
+use Rattle.cyp_term.specs.declared.lit.Lit.TheVariants.{Eq, Le, Lt, Ne}
 use Rattle.cyp_term.specs.declared.term.Term.{Term}
-use Rattle.cyp_term.specs.declared.term.Var.{Var}
-use Rattle.cyp_heap.proofs.Short.{S, X, X+, block, cell, from_nothing, k, left_as_is, list_at, list_tagged, lists, no_members, no_preds, node, num, out_of_reach, s, swap, two_at_one, with_elem, write_five, x}
+use Rattle.cyp_heap.proofs.Short.{S, X, block, cell, from_nothing, k, list_at, list_tagged, lists, no_preds, node, num, out_of_reach, s, swap, two_at_one, write_five, x}
 
 -- ---- shown
 
