@@ -1,5 +1,5 @@
 -- Programs of derivations, computed.
-use Rattle.std.proofs.Common.{◌≡◌, ℕ, List, [], ◌∷◌, true, refl}
+use Rattle.std.proofs.Common.{◌≡◌, true, refl}
 use Rattle.std.specs.Fmt.{digits}
 use Rattle.std.specs.Prelude.{codes}
 use Rattle.cyp_heap.specs.declared.goal.Node.{Node}
@@ -13,7 +13,7 @@ use Rattle.cyp_term.specs.Entailment.{arrangement_fits, arrangements, class_lite
 use Rattle.cyp_term.specs.Integers.{all_cases, both, eliminate, eliminate_all, feasible, ints_fit, joined}
 use Rattle.cyp_term.specs.Regions.{all_set_vars, all_terms, regions_fit}
 use Rattle.cyp_tree.specs.Derivations.{Derived, More, NoMore}
-use Rattle.cyp_heap.proofs.Short.{dispose, two_at_one, write_five}
+use Rattle.cyp_heap.proofs.Short.{dispose, two_at_one}
 use Rattle.cyp_step.proofs.ExamplesDispose.{call_rest, called, cons_node, freed, nil_node, read_once, read_twice}
 use Rattle.cyp_step.proofs.ExamplesStores.{after_call, behind, call_by, nothing_behind, opened, read, read_behind}
 
