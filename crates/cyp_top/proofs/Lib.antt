@@ -1,2 +1,7 @@
 pub mod Outputs
+mod RowsCells
+mod RowsChain
+mod RowsEdges
+mod RowsLists
+pub mod RowsShort
 pub mod Sending
