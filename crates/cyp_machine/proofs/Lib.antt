@@ -1,3 +1,4 @@
+pub mod ClosedPrograms
 pub mod Examples
 pub mod FreeBases
 pub mod Going
@@ -6,4 +7,5 @@ pub mod InputExact
 pub mod InputExamples
 pub mod Inputs
 pub mod Least
+pub mod LeastRuns
 pub mod Options

@@ -1,6 +1,8 @@
 pub mod Closed
+pub mod ClosedLaws
 pub mod Faults
 pub mod Laws
+pub mod LeastRunLaws
 pub mod RunInput
 pub mod RunInputLaws
 pub mod Runs
