@@ -9,7 +9,7 @@ use Rattle.std.specs.Prelude.{nat_lt}
 use Rattle.cyp_grammar.specs.Spelling.{Ident}
 use Rattle.cyp_machine.specs.Closed.{IsClosed, calls_below, statement_calls_below}
 use Rattle.cyp_machine.specs.ClosedLaws.{EntryIsThere, InputIsClosed, SpelledIsClosed}
-use Rattle.cyp_machine.specs.RunInput.{InputTree, RunInput, input_faults, input_of, num_of, piece_faults, range_faults}
+use Rattle.cyp_machine.specs.RunInput.{InputTree, NumTree, RunInput, StartTree, input_faults, input_of, num_of, piece_faults, range_faults, start_faults}
 use Rattle.cyp_prog.specs.Bindings.{arity_faults, block_faults, bound_behind, call_faults, count_faults, expr_vars, name_faults, param_faults, proc_faults, program_faults, stmt_faults, use_faults}
 use Rattle.cyp_prog.specs.Faults.{ProgFault, ProgKind, WrongArity, earlier, least_fault, unless}
 use Rattle.cyp_prog.specs.Programs.{Procedure}
@@ -99,13 +99,18 @@ spelled_is_closed bytes ps r = subst IsClosed r.said (tree_closed r.tree (no_fau
 
 -- ---- inputs
 
+-- the start line without a fault calls what is there
+line_calls : (qs : List ProcTree) (t : StartTree) → start_faults qs t ≡ [] → call_faults qs t.name (length t.args) ≡ []
+line_calls qs t e =
+    let calls : List ProgFault = call_faults qs t.name (length t.args) in
+    let args : List ProgFault = flat_map (λ (a : NumTree). range_faults a.place a.n) t.args in
+    (nil_parts calls args (nil_parts (calls ++ args) (piece_faults [] [] t.pieces) e).0).0
+
 -- the program of the tree has no fault, and the start line calls what is there
-start_there : (t : InputTree) → input_faults t ≡ [] → (program_faults t.program ≡ []) × (call_faults (procs_of t.program) t.name (length t.args) ≡ [])
+start_there : (t : InputTree) → input_faults t ≡ [] → (program_faults t.program ≡ []) × (call_faults (procs_of t.program) t.start.name (length t.start.args) ≡ [])
 start_there t e =
-    let calls : List ProgFault = call_faults (procs_of t.program) t.name (length t.args) in
-    let pieces = nil_parts (program_faults t.program ++ calls ++ flat_map (λ a. range_faults a.place a.n) t.args) (piece_faults [] [] t.pieces) e in
-    let args = nil_parts (program_faults t.program ++ calls) (flat_map (λ a. range_faults a.place a.n) t.args) pieces.0 in
-    nil_parts (program_faults t.program) calls args.0
+    let parts = nil_parts (program_faults t.program) (start_faults (procs_of t.program) t.start) e in
+    (parts.0, line_calls (procs_of t.program) t.start parts.1)
 
 pub input_is_closed : InputIsClosed
 input_is_closed bytes i r =
@@ -115,14 +120,14 @@ input_is_closed bytes i r =
 abbrev IsEntry : RunInput → Type 0
 IsEntry i = (q : Procedure) × (slice_get i.program i.entry ≡ Some q) × (q.params ≡ length i.args)
 
-tree_entry : (t : InputTree) → call_faults (procs_of t.program) t.name (length t.args) ≡ [] → IsEntry (input_of t)
+tree_entry : (t : InputTree) → call_faults (procs_of t.program) t.start.name (length t.start.args) ≡ [] → IsEntry (input_of t)
 tree_entry t e =
     let qs : List ProcTree = procs_of t.program in
-    let k : ℕ = proc_place t.name.text qs in
-    let q = call_there qs t.name (length t.args) e in (
+    let k : ℕ = proc_place t.start.name.text qs in
+    let q = call_there qs t.start.name (length t.start.args) e in (
       proc_of qs q.0,
       slice_get-map (proc_of qs) qs k ∙ ap (option_map (proc_of qs)) q.1,
-      eqb-true (length q.0.params) (length t.args) q.2 ∙ sym (length-map t.args num_of),
+      eqb-true (length q.0.params) (length t.start.args) q.2 ∙ sym (length-map t.start.args num_of),
     )
 
 pub entry_is_there : EntryIsThere

@@ -3,9 +3,10 @@ pub mod Examples
 pub mod FreeBases
 pub mod Going
 pub mod Halted
-pub mod InputExact
 pub mod InputExamples
+pub mod InputLaws
 pub mod Inputs
 pub mod Least
 pub mod LeastRuns
+pub mod LineLaws
 pub mod Options

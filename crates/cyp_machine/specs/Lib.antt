@@ -5,6 +5,7 @@ pub mod Laws
 pub mod LeastRunLaws
 pub mod RunInput
 pub mod RunInputLaws
+pub mod RunInputReaders
 pub mod Runs
 pub mod States
 pub mod Steps

@@ -1,9 +1,10 @@
+pub mod Decided
 pub mod Exact
-pub mod ExprExact
-pub mod StmtExact
-pub mod ProgramExact
-pub mod GrammarFaults
-pub mod Readings
-pub mod Programs
-pub mod Shallow
 pub mod Examples
+pub mod ExprLaws
+pub mod GrammarFaults
+pub mod ProgramLaws
+pub mod Programs
+pub mod Readings
+pub mod Shallow
+pub mod StmtLaws

@@ -10,3 +10,5 @@ pub mod Nesting
 pub mod Passes
 pub mod Reading
 pub mod Laws
+pub mod ExprReaders
+pub mod StmtReaders
