@@ -1,13 +1,16 @@
 -- Runs with the least allocation.
-use Rattle.std.proofs.Common.{List, arith, refl, subst, suc, sym, zero, ℕ, ◌∙◌, ◌≡◌, ◌≤◌}
+use Rattle.std.proofs.Common.{[], IsSome, IsTrue, List, None, arith, refl, subst, suc, sym, true, zero, ℕ, ◌∙◌, ◌∷◌, ◌≡◌, ◌≤◌, ◌⊎◌}
+use Rattle.std.proofs.lemmas.Bool.{false≢true}
+use Rattle.cyp_heap.specs.Stores.{Store}
 use Rattle.cyp_machine.proofs.Going.{least_is_a_step}
 use Rattle.cyp_machine.proofs.Halted.{halted_has_no_step}
 use Rattle.cyp_machine.proofs.Least.{least_is_one}
+use Rattle.cyp_machine.specs.Faults.{body_fault, fault, frames_fault}
 use Rattle.cyp_machine.specs.LeastRunLaws.{HaltedIsLongest, LeastRunIsARun, LeastRunsMeet}
 use Rattle.cyp_machine.specs.Runs.{RunBy}
-use Rattle.cyp_machine.specs.States.{State}
+use Rattle.cyp_machine.specs.States.{Frame, State, frames_ended, has_ended, is_end}
 use Rattle.cyp_machine.specs.Steps.{StepBy, least_pick}
-use Rattle.cyp_prog.specs.Programs.{Procedure}
+use Rattle.cyp_prog.specs.Programs.{Body, End, Procedure, Then}
 
 module _ (ps : List Procedure) where
   -- what is behind the first step of one run is behind the first step of the other
@@ -38,3 +41,29 @@ halted_is_longest ps m n s t u h p q = no_longer ps m n s t u (λ v st. halted_h
 pub least_run_is_a_run : LeastRunIsARun
 least_run_is_a_run ps zero s t p = p
 least_run_is_a_run ps (suc n) s t p = (p.0, least_is_a_step ps s p.0 p.1, least_run_is_a_run ps n p.0 t p.2)
+
+-- ---- where runs halt
+
+abbrev IsHalted : State → Type 0
+IsHalted t = IsTrue (has_ended t) ⊎ IsSome (fault t)
+
+-- two runs from one state that halt are of one length and end in one state
+pub halts_once : (ps : List Procedure) (m n : ℕ) (s t u : State) → IsHalted t → IsHalted u → RunBy least_pick ps m s t → RunBy least_pick ps n s u → (m ≡ n) × (t ≡ u)
+halts_once ps m n s t u h k p q =
+    let upper : n ≤ m = halted_is_longest ps m n s t u h p q in
+    let lower : m ≤ n = halted_is_longest ps n m s u t k q p in
+    let same : m ≡ n = omega arith in
+    (same, runs_meet ps n s t u (subst (λ (j : ℕ). RunBy least_pick ps j s t) same p) q)
+
+ended_frames : (fs : List Frame) (h : Store) → frames_ended fs ≡ true → frames_fault h fs ≡ None
+ended_frames [] h e = absurd (false≢true e)
+ended_frames (f ∷ []) h e = ended_body f.rest e
+  where
+    ended_body : (b : Body) → is_end b ≡ true → body_fault h f.values b ≡ None
+    ended_body End e = refl
+    ended_body (Then s b) e = absurd (false≢true e)
+ended_frames (f ∷ g ∷ fs) h e = absurd (false≢true e)
+
+-- a state that has ended has no fault
+pub ended_has_no_fault : (t : State) → IsTrue (has_ended t) → fault t ≡ None
+ended_has_no_fault t e = ended_frames t.frames t.store e

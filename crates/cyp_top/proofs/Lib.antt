@@ -1,2 +1,4 @@
 pub mod Outputs
+pub mod RunOutputs
 pub mod Sending
+pub mod WholeOutputs
