@@ -1,3 +1,4 @@
+pub mod ClosedPrograms
 pub mod Examples
 pub mod FreeBases
 pub mod Going
@@ -6,6 +7,7 @@ pub mod InputExamples
 pub mod InputLaws
 pub mod Inputs
 pub mod Least
+pub mod LeastRuns
 pub mod LineLaws
 pub mod Options
 pub mod RunInputReaders

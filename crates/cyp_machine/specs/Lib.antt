@@ -1,8 +1,11 @@
 pub mod Closed
+pub mod ClosedLaws
 pub mod Faults
 pub mod Laws
+pub mod LeastRunLaws
 pub mod RunInput
 pub mod RunInputLaws
+pub mod RunInputReaders
 pub mod Runs
 pub mod States
 pub mod Steps

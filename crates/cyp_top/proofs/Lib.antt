@@ -4,4 +4,6 @@ mod RowsChain
 mod RowsEdges
 mod RowsLists
 pub mod RowsShort
+pub mod RunOutputs
 pub mod Sending
+pub mod WholeOutputs
