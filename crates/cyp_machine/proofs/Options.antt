@@ -13,6 +13,10 @@ pub some_there : {A : Type 0} (o : Option A) (x : A) → o ≡ Some x → is_som
 some_there None x h = cc
 some_there (Some y) x h = refl
 
+-- an option is one value at most
+pub same_some : {A : Type 0} (o : Option A) (x y : A) → o ≡ Some x → o ≡ Some y → x ≡ y
+same_some o x y p q = cc
+
 -- without a fault what is needed is there
 pub there : (b : Bool) (c : Cause) → unless_there b c ≡ None → b ≡ true
 there true c h = refl

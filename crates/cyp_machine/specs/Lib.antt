@@ -1,6 +1,7 @@
 pub mod Closed
 pub mod Faults
 pub mod Laws
+pub mod Parts
 pub mod RunInput
 pub mod RunInputLaws
 pub mod Runs
