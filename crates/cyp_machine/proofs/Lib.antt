@@ -1,7 +1,10 @@
 pub mod Calls
+pub mod CellUnions
 pub mod Effects
 pub mod Examples
 pub mod Followed
+pub mod FramedRuns
+pub mod FramedSteps
 pub mod FreeBases
 pub mod Going
 pub mod Halted

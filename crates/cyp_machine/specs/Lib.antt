@@ -1,5 +1,6 @@
 pub mod Closed
 pub mod Faults
+pub mod Framing
 pub mod Laws
 pub mod Parts
 pub mod RunInput
