@@ -10,7 +10,6 @@ pub mod FreeBases
 pub mod Going
 pub mod Halted
 pub mod InnerRuns
-pub mod InputExact
 pub mod InputExamples
 pub mod InputLaws
 pub mod Inputs

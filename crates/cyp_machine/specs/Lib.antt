@@ -7,7 +7,6 @@ pub mod LeastRunLaws
 pub mod Parts
 pub mod RunInput
 pub mod RunInputLaws
-pub mod RunInputReaders
 pub mod Runs
 pub mod States
 pub mod Steps
