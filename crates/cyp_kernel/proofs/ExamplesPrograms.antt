@@ -1,8 +1,11 @@
 -- Programs of derivations, computed.
-use Rattle.std.proofs.Common.{◌≡◌, true, refl}
+use Rattle.std.proofs.Common.{[], List, map, refl, replicate, true, ℕ, ◌∷◌, ◌≡◌}
 use Rattle.std.specs.Fmt.{digits}
 use Rattle.std.specs.Prelude.{codes}
+use Rattle.cyp_heap.specs.declared.goal.Link.{Link}
 use Rattle.cyp_heap.specs.declared.goal.Node.{Node}
+use Rattle.cyp_pred.specs.Unfold.{count_from}
+use Rattle.cyp_prog.specs.Programs.{Procedure}
 use Rattle.cyp_kernel.specs.Companions.{Proof}
 use Rattle.cyp_kernel.specs.Compile.{program_of}
 use Rattle.cyp_kernel.specs.Narrow.{is_narrow}
@@ -13,7 +16,7 @@ use Rattle.cyp_term.specs.Entailment.{arrangement_fits, arrangements, class_lite
 use Rattle.cyp_term.specs.Integers.{all_cases, both, eliminate, eliminate_all, feasible, ints_fit, joined}
 use Rattle.cyp_term.specs.Regions.{all_set_vars, all_terms, regions_fit}
 use Rattle.cyp_tree.specs.Derivations.{Derived, More, NoMore}
-use Rattle.cyp_heap.proofs.Short.{dispose, two_at_one}
+use Rattle.cyp_heap.proofs.Short.{dispose, no_preds, two_at_one, x}
 use Rattle.cyp_step.proofs.ExamplesDispose.{call_rest, called, cons_node, freed, nil_node, read_once, read_twice}
 use Rattle.cyp_step.proofs.ExamplesStores.{after_call, behind, call_by, nothing_behind, opened, read, read_behind}
 
@@ -64,3 +67,37 @@ stored =
 store_text : program_text (program_of (codes "f") stored) ≡ codes "void f(v1, v2) {\n  if (v2 == 0) {\n  } else {\n    let v3 = *v2;\n    let v4 = *(v2 + 1);\n    *v1 = v4;\n    f(v1, v4);\n  }\n}\n"
 unfolding digits joined eliminate eliminate_all feasible both all_cases ints_fit arrangements class_literals arrangement_fits satisfiable entailed regions_fit all_terms all_set_vars
 store_text = refl
+
+-- ---- procedures
+
+-- a companion that only its number tells
+abbrev some_link : Link
+some_link = record { goal = two_at_one.goal; own = []; map = record { ints = []; sets = [] }; tuple = [] }
+
+-- a node with so many program variables and so many companions
+abbrev sketch : ℕ → ℕ → Node
+sketch variables links = record {
+  preds = no_preds;
+  goal = record { program = map x (count_from 0 variables); exist = []; pure_pre = []; pre = record { chunks = [] }; pure_post = []; post = record { chunks = [] } };
+  links = replicate links some_link;
+}
+
+-- a call of the companion of this number
+abbrev calling : ℕ → Proof
+calling k = ended (sketch 1 2) (ByCall (record { link = k; pairs = [] }))
+
+-- two companions that are called stand side by side, and a third inside the first
+abbrev three_called : Proof
+three_called =
+    Derived (sketch 1 0) (ByOpen 0)
+    (More (Derived (sketch 2 1) (ByOpen 0) (More (Derived (sketch 3 2) (ByOpen 0) (More (calling 2) (More (calling 1) NoMore))) NoMore))
+    (More (Derived (sketch 4 1) (ByOpen 0) (More (calling 1) NoMore)) NoMore))
+
+-- a procedure by its name and its number of parameters
+abbrev head_of : Procedure → List ℕ × ℕ
+head_of p = (p.name, p.params)
+
+-- auxiliary procedures are numbered in preorder: what stands inside a companion comes before its neighbour
+in_preorder : map head_of (program_of (codes "f") three_called) ≡ (codes "f", 1) ∷ (codes "f_1", 2) ∷ (codes "f_2", 3) ∷ (codes "f_3", 4) ∷ []
+unfolding digits joined eliminate eliminate_all feasible both all_cases ints_fit arrangements class_literals arrangement_fits satisfiable entailed regions_fit all_terms all_set_vars
+in_preorder = refl
