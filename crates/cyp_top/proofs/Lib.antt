@@ -1,3 +1,4 @@
+pub mod Examples
 pub mod Outputs
 pub mod RunOutputs
 pub mod Sending
