@@ -5,6 +5,7 @@ use Rattle.std.proofs.lemmas.Cmp.{int_cmp_total}
 use Rattle.std.proofs.lemmas.List.{nil_from_length}
 use Rattle.std.specs.FinMap.{empty, entries, entries-insert, from_entries, get-empty, len-empty, len-entries}
 use Rattle.std.specs.FinMap.Entries.{put}
+use Rattle.std.specs.Fmt.{digits}
 use Rattle.std.specs.Prelude.{codes, flat_map, neg_ℤ}
 use Rattle.cyp_heap.specs.Stores.{Store, no_store}
 use Rattle.cyp_heap.specs.declared.goal.Node.{Node}
@@ -40,47 +41,51 @@ no_words bytes = refl
 
 guards_overlap : (bytes : List ℕ) → IsReading bytes (Err (record { kind = GuardsOverlap; place = 43 }))
     → IsWholeOutput (codes "synth" ∷ []) bytes (output (codes "refused: GuardsOverlap at 43\n") Refused)
+unfolding digits
 guards_overlap bytes h = (Err (record { kind = GuardsOverlap; place = 43 }), h, refl)
 
 long_text : (bytes : List ℕ) → 65536 < length bytes → IsWholeOutput (codes "synth" ∷ []) bytes (output (codes "refused: TooLong at 65536\n") Refused)
+unfolding digits
 long_text bytes l =
     let f : Fault = record { kind = TooLong; place = 65536 } in
     (Err f, subst (λ b. IsReadingOf b bytes (Err f)) (sym (lt-leb (length bytes) 65536 l)) refl, refl)
 
 long_input : (bytes : List ℕ) → 65536 < length bytes → IsWholeOutput (codes "run" ∷ []) bytes (output (codes "refused: TooLong at 65536\n") Refused)
+unfolding digits
 long_input bytes l = subst (λ b. IsRunOutputOf b 100000 bytes (output (codes "refused: TooLong at 65536\n") Refused)) (sym (lt-leb (length bytes) 65536 l)) refl
 
 -- ---- reports
 
-no_program : PlainReport Rule Node
+abbrev no_program : PlainReport Rule Node
 no_program = record { verdict = NoneFound; expansions = 8; nodes = 12; depth = 3 }
 
-with_lines : Search
+abbrev with_lines : Search
 with_lines = record { budget = 20000; unfoldings = 2; workers = 4; stats = true }
 
-without_lines : Search
+abbrev without_lines : Search
 without_lines = record { budget = 20000; unfoldings = 2; workers = 4; stats = false }
 
 lines_printed : report_output with_lines (codes "f") no_program ≡ output (codes "no program\n// expansions 8\n// nodes 12\n// depth 3\n") NoProgram
-unfolding with_lines no_program
+unfolding digits
 lines_printed = refl
 
 no_lines_printed : report_output without_lines (codes "f") no_program ≡ output (codes "no program\n") NoProgram
-unfolding without_lines no_program
+unfolding digits
 no_lines_printed = refl
 
 chain_printed : chain_lines 3 no_program ≡ output (codes "gen 3\nanswer no program\nexpansions 8\nnodes 12\ndepth 3\n") NoProgram
-unfolding no_program
+unfolding digits
 chain_printed = refl
 
 chain_spent : chain_lines 16 (record { verdict = BudgetSpent; expansions = 100000; nodes = 100000; depth = 16 })
     ≡ output (codes "gen 16\nanswer budget spent\nexpansions 100000\nnodes 100000\ndepth 16\n") Spent
+unfolding digits
 chain_spent = refl
 
 -- ---- stores
 
 -- the entries in the order of their keys
-puts : {X : Type 0} → List (ℤ × X) → List (ℤ × X)
+abbrev puts : {X : Type 0} → List (ℤ × X) → List (ℤ × X)
 puts [] = []
 puts (e ∷ es) = put int_cmp e.0 e.1 (puts es)
 
@@ -88,7 +93,6 @@ no_entries : (X : Type 0) → entries (empty {X = X} {R = int_cmp}) ≡ []
 no_entries X = nil_from_length (entries (empty {X = X} {R = int_cmp})) (sym (len-entries empty) ∙ len-empty int_cmp X)
 
 entries_put : {X : Type 0} (es : List (ℤ × X)) → entries (from_entries {R = int_cmp} es) ≡ puts es
-unfolding puts
 entries_put {X} [] = no_entries X
 entries_put (e ∷ es) = entries-insert int_cmp_total (from_entries es) e.0 e.1 ∙ ap (put int_cmp e.0 e.1) (entries_put es)
 
@@ -97,24 +101,24 @@ store_put : (bs : List (ℤ × ℕ)) (cs : List (ℤ × ℤ))
 store_put bs cs = λ i. flat_map block_line (entries_put bs i) ++ flat_map cell_line (entries_put cs i)
 
 -- 10 comes behind 9
-two_cells : Store
+abbrev two_cells : Store
 two_cells = record { cells = from_entries ((pos 10, pos 7) ∷ (pos 9, neg_ℤ (pos 3)) ∷ []); blocks = from_entries ((pos 9, 2) ∷ []) }
 
 two_cells_printed : store_lines two_cells ≡ codes "[9, 2]\n9 :-> -3\n10 :-> 7\n"
-unfolding two_cells puts put
+unfolding digits
 two_cells_printed = store_put ((pos 9, 2) ∷ []) ((pos 10, pos 7) ∷ (pos 9, neg_ℤ (pos 3)) ∷ [])
 
 -- ---- runs
 
-v1 : Expr
+abbrev v1 : Expr
 v1 = record { var = Some 1; offset = pos 0 }
 
 -- a procedure with this body is called at 5
-input : Body → Store → RunInput
+abbrev input : Body → Store → RunInput
 input b h = record { program = record { name = codes "f"; params = 1; body = b } ∷ []; entry = 0; args = pos 5 ∷ []; store = h }
 
 at_once : IsRunOutput (input End two_cells) 1 (output (codes "ended after 0 steps\n[9, 2]\n9 :-> -3\n10 :-> 7\n") Program)
-unfolding input
+unfolding digits
 at_once = inl (record {
   steps = 0;
   state = first_state (input End two_cells);
@@ -125,7 +129,7 @@ at_once = inl (record {
 })
 
 no_cell : IsRunOutput (input (Then (Loading 2 v1) End) no_store) 1 (output (codes "faulted: ReadMissing at step 1\n") NoProgram)
-unfolding input v1
+unfolding digits
 no_cell = inr (inl (record {
   steps = 0;
   state = first_state (input (Then (Loading 2 v1) End) no_store);
@@ -137,17 +141,16 @@ no_cell = inr (inl (record {
 }))
 
 -- the procedure calls itself
-call_again : Body
+abbrev call_again : Body
 call_again = Then (Invoking 0 (v1 ∷ [])) End
 
-called : State
+abbrev called : State
 called = record {
   store = no_store;
   frames = record { values = (1, pos 5) ∷ []; rest = call_again } ∷ record { values = (1, pos 5) ∷ []; rest = End } ∷ [];
 }
 
 endless : IsRunOutput (input call_again no_store) 1 (output (codes "spent\n") Spent)
-unfolding input v1 call_again called
 endless = inr (inr (record {
   state = called;
   run = (called, (record { name = codes "f"; params = 1; body = call_again }, refl, refl), refl);
