@@ -1,5 +1,5 @@
 -- Searches that find cells in falling order, computed: with n cells they take 2 ^ n expansions.
-use Rattle.std.proofs.Common.{◌≡◌, ℕ, zero, suc, ◌+◌, List, [], ◌∷◌, Some, None, refl}
+use Rattle.std.proofs.Common.{◌≡◌, ℕ, zero, suc, ◌+◌, List, [], ◌∷◌, refl}
 use Rattle.std.specs.Fmt.{digits}
 use Rattle.std.specs.Prelude.{codes}
 use Rattle.cyp_heap.specs.declared.chunk.Chunk.{Chunk}
@@ -9,7 +9,6 @@ use Rattle.cyp_term.specs.Integers.{all_cases, both, eliminate, eliminate_all, f
 use Rattle.cyp_term.specs.Regions.{all_set_vars, all_terms, regions_fit}
 use Rattle.cyp_term.specs.declared.lit.Lit.{Lit}
 use Rattle.cyp_term.specs.declared.lit.Lit.TheVariants.{Lt}
-use Rattle.cyp_term.specs.declared.term.Term.{Term}
 use Rattle.cyp_term.specs.declared.term.Var.{Var}
 use Rattle.cyp_top.specs.Output.{Output, output}
 use Rattle.cyp_top.specs.declared.status.Status.TheVariants.{Program}

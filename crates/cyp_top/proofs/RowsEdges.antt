@@ -1,12 +1,10 @@
 -- Searches that guess, allocate or meet a predicate of their own, computed.
-use Rattle.std.proofs.Common.{◌≡◌, ℕ, List, [], ◌∷◌, Some, None, refl}
+use Rattle.std.proofs.Common.{◌≡◌, ℕ, [], ◌∷◌, Some, None, refl}
 use Rattle.std.specs.Fmt.{digits}
 use Rattle.std.specs.Prelude.{codes, neg_ℤ, pos}
 use Rattle.cyp_heap.specs.declared.chunk.Arg.TheVariants.{Int as IntArg}
-use Rattle.cyp_heap.specs.declared.chunk.Chunk.{Chunk}
 use Rattle.cyp_heap.specs.declared.chunk.Chunk.TheVariants.{Inst}
 use Rattle.cyp_heap.specs.declared.goal.Node.{Node}
-use Rattle.cyp_heap.specs.declared.pred.Clause.{Clause}
 use Rattle.cyp_heap.specs.declared.pred.Preds.{Preds}
 use Rattle.cyp_step.specs.declared.rule.Rule.TheVariants.{ByAlloc, ByEmp, ByFrame, ByFree, ByOpen, ByPick, ByRead, ByWrite}
 use Rattle.cyp_term.specs.Entailment.{arrangement_fits, arrangements, class_literals, entailed, satisfiable}
@@ -15,8 +13,6 @@ use Rattle.cyp_term.specs.Regions.{all_set_vars, all_terms, regions_fit}
 use Rattle.cyp_term.specs.Terms.{plus}
 use Rattle.cyp_term.specs.declared.lit.Lit.TheVariants.{Eq, Le, Ne}
 use Rattle.cyp_term.specs.declared.term.Sort.TheVariants.{Int}
-use Rattle.cyp_term.specs.declared.term.Term.{Term}
-use Rattle.cyp_term.specs.declared.term.Var.{Var}
 use Rattle.cyp_top.specs.Output.{output}
 use Rattle.cyp_top.specs.declared.status.Status.TheVariants.{NoProgram, Program}
 use Rattle.cyp_heap.proofs.Short.{X, X+, block, cell, k, no_preds, node, num, x}

@@ -1,5 +1,5 @@
 -- Searches for programs on lists, computed: what is written, and how the search went.
-use Rattle.std.proofs.Common.{◌≡◌, ℕ, List, [], ◌∷◌, Some, None, refl}
+use Rattle.std.proofs.Common.{◌≡◌, [], ◌∷◌, None, refl}
 use Rattle.std.specs.Fmt.{digits}
 use Rattle.std.specs.Prelude.{codes}
 use Rattle.cyp_step.specs.declared.rule.Rule.TheVariants.{ByClose, ByEmp, ByFrame, ByFree, ByOpen, ByRead, ByWrite}
@@ -7,8 +7,6 @@ use Rattle.cyp_heap.specs.declared.goal.Node.{Node}
 use Rattle.cyp_term.specs.Entailment.{arrangement_fits, arrangements, class_literals, entailed, satisfiable}
 use Rattle.cyp_term.specs.Integers.{all_cases, both, eliminate, eliminate_all, feasible, ints_fit, joined}
 use Rattle.cyp_term.specs.Regions.{all_set_vars, all_terms, regions_fit}
-use Rattle.cyp_term.specs.declared.term.Term.{Term}
-use Rattle.cyp_term.specs.declared.term.Var.{Var}
 use Rattle.cyp_top.specs.Output.{output}
 use Rattle.cyp_top.specs.declared.status.Status.TheVariants.{NoProgram, Program}
 use Rattle.cyp_heap.proofs.Short.{S, X, cell, clear, dispose, left_as_is, list_at, lists, node, num, out_of_reach, s, x}

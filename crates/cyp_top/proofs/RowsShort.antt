@@ -5,7 +5,6 @@ use Rattle.cyp_heap.specs.declared.goal.Node.{Node}
 use Rattle.cyp_moves.specs.Moves.{is_any, moves_of_kinds, weight}
 use Rattle.cyp_search.specs.Reports.{PlainReport, report}
 use Rattle.cyp_space.specs.Alts.{AltOf}
-use Rattle.cyp_step.specs.declared.rule.CallBy.{CallBy}
 use Rattle.cyp_step.specs.declared.rule.Rule.{Rule}
 use Rattle.cyp_step.specs.declared.rule.Rule.TheVariants.{ByCall}
 use Rattle.cyp_top.specs.Output.{Output, verdict_output}
