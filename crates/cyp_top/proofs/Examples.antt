@@ -1,5 +1,5 @@
 -- Worked outputs.
-use Rattle.std.proofs.Common.{[], Err, List, None, Option, Some, ap, arith, false, inl, inr, int_cmp, is_some, length, pos, refl, subst, sym, true, ℕ, ℤ, ◌++◌, ◌<◌, ◌∙◌, ◌∷◌, ◌≡◌}
+use Rattle.std.proofs.Common.{[], Err, List, Option, Some, ap, arith, false, inl, inr, int_cmp, is_some, length, pos, refl, subst, sym, true, ℕ, ℤ, ◌++◌, ◌<◌, ◌∙◌, ◌∷◌, ◌≡◌}
 use Rattle.std.proofs.lemmas.Bool.{lt-leb}
 use Rattle.std.proofs.lemmas.Cmp.{int_cmp_total}
 use Rattle.std.proofs.lemmas.List.{nil_from_length}
@@ -11,7 +11,7 @@ use Rattle.cyp_heap.specs.Stores.{Store, no_store}
 use Rattle.cyp_heap.specs.declared.goal.Node.{Node}
 use Rattle.cyp_lex.specs.declared.fault.Fault.{Fault}
 use Rattle.cyp_lex.specs.declared.fault.FaultKind.TheVariants.{GuardsOverlap, TooLong}
-use Rattle.cyp_machine.specs.Faults.{fault, unless_there}
+use Rattle.cyp_machine.specs.Faults.{unless_there}
 use Rattle.cyp_machine.specs.RunInput.{RunInput}
 use Rattle.cyp_machine.specs.States.{State}
 use Rattle.cyp_machine.specs.declared.cause.Cause.TheVariants.{ReadMissing}
@@ -22,8 +22,8 @@ use Rattle.cyp_search.specs.Reports.{Spent as BudgetSpent}
 use Rattle.cyp_spec.specs.Reading.{IsReading, IsReadingOf}
 use Rattle.cyp_step.specs.declared.rule.Rule.{Rule}
 use Rattle.cyp_top.specs.Chain.{chain_lines}
-use Rattle.cyp_top.specs.Output.{Output, output, words_refused}
-use Rattle.cyp_top.specs.RunOutput.{IsInputOutput, IsRunOutput, IsRunOutputOf, block_line, cell_line, ended_output, first_state, store_lines}
+use Rattle.cyp_top.specs.Output.{output, words_refused}
+use Rattle.cyp_top.specs.RunOutput.{IsRunOutput, IsRunOutputOf, block_line, cell_line, first_state, store_lines}
 use Rattle.cyp_top.specs.Synthesis.{report_output}
 use Rattle.cyp_top.specs.WholeOutput.{IsWholeOutput}
 use Rattle.cyp_top.specs.declared.status.Status.TheVariants.{NoProgram, Program, Refused, Spent, Usage}

@@ -1,5 +1,5 @@
 -- The run of an input has one output.
-use Rattle.std.proofs.Common.{Bool, IsTrue, None, Option, Some, ap, arith, false, inl, inr, is_some, refl, subst, suc, sym, true, zero, ℕ, ◌+◌, ◌∙◌, ◌≡◌, ◌≤◌, ◌<◌, ◌⊎◌}
+use Rattle.std.proofs.Common.{Bool, IsTrue, None, Option, Some, ap, arith, false, inl, inr, refl, subst, suc, sym, true, zero, ℕ, ◌+◌, ◌∙◌, ◌≡◌, ◌≤◌, ◌<◌, ◌⊎◌}
 use Rattle.std.proofs.lemmas.Bool.{false≢true}
 use Rattle.std.proofs.lemmas.Option.{none-some, same_Some}
 use Rattle.cyp_machine.proofs.Going.{run_goes_on}
@@ -25,14 +25,14 @@ module _ (i : RunInput) (fuel : ℕ) where
   faults_once : (a b : Output) → Faults i fuel a → Faults i fuel b → a ≡ b
   faults_once a b x y =
       let same = halts_once i.program x.steps y.steps (first_state i) x.state y.state
-          (inr (some_there (fault x.state) x.cause x.faulted)) (inr (some_there (fault y.state) y.cause y.faulted)) x.run y.run in
+      (inr (some_there (fault x.state) x.cause x.faulted)) (inr (some_there (fault y.state) y.cause y.faulted)) x.run y.run in
       let cause : x.cause ≡ y.cause = same_Some x.cause y.cause (sym x.faulted ∙ ap fault same.1 ∙ y.faulted) in
       x.said ∙ ap (λ (c : Cause). faulted_output c (suc x.steps)) cause ∙ ap (λ (k : ℕ). faulted_output y.cause (suc k)) same.0 ∙ sym y.said
 
   ends_no_fault : (a b : Output) → Ends i fuel a → Faults i fuel b → ⊥
   ends_no_fault a b x y =
       let same = halts_once i.program x.steps y.steps (first_state i) x.state y.state
-          (inl x.ended) (inr (some_there (fault y.state) y.cause y.faulted)) x.run y.run in
+      (inl x.ended) (inr (some_there (fault y.state) y.cause y.faulted)) x.run y.run in
       none-some y.cause (sym (ended_has_no_fault x.state x.ended) ∙ ap fault same.1 ∙ y.faulted)
 
   ends_not_spent : (a b : Output) → Ends i fuel a → Spends i fuel b → ⊥
@@ -47,7 +47,7 @@ module _ (i : RunInput) (fuel : ℕ) where
   faults_not_spent a b x y =
       let within : x.steps < fuel = x.within in
       let past : fuel ≤ x.steps =
-          halted_is_longest i.program x.steps fuel (first_state i) x.state y.state (inr (some_there (fault x.state) x.cause x.faulted)) x.run y.run in
+      halted_is_longest i.program x.steps fuel (first_state i) x.state y.state (inr (some_there (fault x.state) x.cause x.faulted)) x.run y.run in
       omega arith
 
   pub one_run_output : (a b : Output) → IsRunOutput i fuel a → IsRunOutput i fuel b → a ≡ b

@@ -13,7 +13,7 @@ use Rattle.cyp_spec.specs.Specifications.{Specification}
 use Rattle.cyp_top.proofs.RunOutputs.{one_run_output, some_run_output}
 use Rattle.cyp_top.specs.Chain.{gen_output}
 use Rattle.cyp_top.specs.Output.{Output, words_refused}
-use Rattle.cyp_top.specs.RunOutput.{IsInputOutput, IsResultOutput, IsRunOutputOf, kind_name}
+use Rattle.cyp_top.specs.RunOutput.{IsResultOutput, IsRunOutputOf, kind_name}
 use Rattle.cyp_top.specs.Reports.{refused_at}
 use Rattle.cyp_top.specs.Synthesis.{IsSpecOutput, result_output}
 use Rattle.cyp_top.specs.WholeOutput.{IsCommandOutput, OneWholeOutput, SomeWholeOutput}
