@@ -1,5 +1,5 @@
 -- The limits of a node, and its units.
-use Rattle.std.specs.Prelude.{[], ◌&&◌, ◌*◌, ◌+◌, ◌++◌, Bool, List, filter, flat_map, length, map, nat_le, not, sum_by, ℕ}
+use Rattle.std.specs.Prelude.{[], ◌&&◌, ◌*◌, ◌+◌, ◌++◌, Bool, List, filter, flat_map, length, nat_le, not, sum_by, ℕ}
 use Rattle.cyp_heap.specs.Goals.{goal_vars, node_vars}
 use Rattle.cyp_heap.specs.declared.chunk.Arg.{Arg}
 use Rattle.cyp_heap.specs.declared.chunk.Arg.TheVariants.{Int as IntArg, Set as SetArg}

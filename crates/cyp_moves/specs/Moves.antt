@@ -6,7 +6,6 @@ use Rattle.cyp_heap.specs.declared.goal.Node.{Node}
 use Rattle.cyp_space.specs.Alts.{AltOf}
 use Rattle.cyp_step.specs.Rows.{first_of_all}
 use Rattle.cyp_step.specs.Shown.{dead}
-use Rattle.cyp_step.specs.Step.{premises}
 use Rattle.cyp_step.specs.declared.rule.Row.{Row}
 use Rattle.cyp_step.specs.declared.rule.Rule.{Rule}
 use Rattle.cyp_step.specs.declared.rule.Rule.TheVariants.{ByAlloc, ByCall, ByClose, ByEmp, ByFrame, ByFree, ByInconsistent, ByOpen, ByPick, ByRead, ByWrite}

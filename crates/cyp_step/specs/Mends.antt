@@ -5,7 +5,6 @@ use Rattle.cyp_heap.specs.declared.chunk.Chunk.{Chunk}
 use Rattle.cyp_heap.specs.declared.chunk.Chunk.TheVariants.{Cell}
 use Rattle.cyp_heap.specs.declared.goal.Goal.{Goal}
 use Rattle.cyp_step.specs.Shown.{is_program_expr, shown}
-use Rattle.cyp_term.specs.Meaning.{value}
 use Rattle.cyp_term.specs.declared.lit.Lit.TheVariants.{Eq}
 use Rattle.cyp_term.specs.declared.term.Term.{Term}
 use Rattle.cyp_unify.specs.declared.found.Match.{Match}

@@ -1,6 +1,5 @@
 -- The rules Open and Close, which unfold an instance.
 use Rattle.std.specs.Prelude.{[], ◌&&◌, ◌++◌, ◌-◌, Bool, List, None, Option, Some, false, filter, flat_map, length, map, nat_lt, not, option_map, slice_get, ℕ, ◌∷◌}
-use Rattle.std.specs.FinMap.{entries}
 use Rattle.std.specs.List.{list_all}
 use Rattle.cyp_heap.specs.Chunks.{insts, put_all, without}
 use Rattle.cyp_heap.specs.Goals.{node_vars}

@@ -10,7 +10,6 @@ use Rattle.cyp_heap.specs.declared.chunk.Chunk.{Chunk}
 use Rattle.cyp_heap.specs.declared.chunk.Chunk.TheVariants.{Block, Cell, Inst}
 use Rattle.cyp_heap.specs.declared.goal.Link.{Link}
 use Rattle.cyp_heap.specs.declared.goal.Node.{Node}
-use Rattle.cyp_term.specs.Meaning.{value}
 use Rattle.cyp_term.specs.Terms.{apply_set, apply_term, int_image, is_set_var, plus, set_image, term_vars, var_eq, var_in, var_term, wide_lit, wide_term, without_repeats}
 use Rattle.cyp_term.specs.declared.lit.Lit.{Lit}
 use Rattle.cyp_term.specs.declared.lit.Lit.TheVariants.{Eq, Same}
