@@ -3,4 +3,5 @@ pub mod Examples
 pub mod Outputs
 pub mod RunOutputs
 pub mod Sending
+pub mod WholeExamples
 pub mod WholeOutputs
