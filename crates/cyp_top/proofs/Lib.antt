@@ -1,5 +1,6 @@
 pub mod ChainExamples
 pub mod Examples
+pub mod ListExamples
 pub mod Outputs
 pub mod RunOutputs
 pub mod Sending

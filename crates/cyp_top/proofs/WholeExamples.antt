@@ -11,7 +11,7 @@ use Rattle.cyp_term.specs.Integers.{all_cases, both, eliminate, eliminate_all, f
 use Rattle.cyp_term.specs.Regions.{all_set_vars, all_terms, regions_fit}
 use Rattle.cyp_top.specs.Output.{output}
 use Rattle.cyp_top.specs.WholeOutput.{IsWholeOutput}
-use Rattle.cyp_top.specs.declared.status.Status.TheVariants.{Program, Refused}
+use Rattle.cyp_top.specs.declared.status.Status.TheVariants.{NoProgram, Program, Refused, Spent}
 
 abbrev swap : List ℕ
 swap = codes "void swap(loc x, loc y) { x :-> a ** y :-> b } { x :-> b ** y :-> a }"
@@ -27,3 +27,37 @@ zero_twice = codes "predicate p(loc x) { | x <= 0 => { emp } | x == 0 => { emp }
 overlapping : IsWholeOutput (codes "synth" ∷ []) zero_twice (output (codes "refused: GuardsOverlap at 43\n") Refused)
 unfolding digits lexed piece_at sign_at stands name_kind satisfiable arrangements class_literals arrangement_fits ints_fit all_cases both joined eliminate eliminate_all feasible all_terms all_set_vars regions_fit entailed
 overlapping = (refused GuardsOverlap 43, inl (tree_of zero_twice, assumption refl, refl), refl)
+
+-- three expansions suffice, two don't
+abbrev write : List ℕ
+write = codes "void f(loc x) { x :-> a } { x :-> 5 }"
+
+write_said : IsWholeOutput (codes "synth" ∷ codes "--budget=3" ∷ []) write (output (codes "void f(v1) {\n  *v1 = 5;\n}\n") Program)
+unfolding digits lexed piece_at sign_at stands name_kind satisfiable arrangements class_literals arrangement_fits ints_fit all_cases both joined eliminate eliminate_all feasible all_terms all_set_vars regions_fit entailed
+write_said = (judge (tree_of write), inl (tree_of write, assumption refl, refl), refl)
+
+write_spent : IsWholeOutput (codes "synth" ∷ codes "--budget" ∷ codes "2" ∷ []) write (output (codes "budget spent\n") Spent)
+unfolding digits lexed piece_at sign_at stands name_kind satisfiable arrangements class_literals arrangement_fits ints_fit all_cases both joined eliminate eliminate_all feasible all_terms all_set_vars regions_fit entailed
+write_spent = (judge (tree_of write), inl (tree_of write, assumption refl, refl), refl)
+
+abbrev new_cell : List ℕ
+new_cell = codes "void f(loc x) { emp } { x :-> 1 }"
+
+new_cell_said : IsWholeOutput (codes "synth" ∷ []) new_cell (output (codes "no program\n") NoProgram)
+unfolding digits lexed piece_at sign_at stands name_kind satisfiable arrangements class_literals arrangement_fits ints_fit all_cases both joined eliminate eliminate_all feasible all_terms all_set_vars regions_fit entailed
+new_cell_said = (judge (tree_of new_cell), inl (tree_of new_cell, assumption refl, refl), refl)
+
+-- no heap is of this precondition
+abbrev one_place : List ℕ
+one_place = codes "void f(loc x) { x :-> 1 ** x :-> 2 } { emp }"
+
+one_place_said : IsWholeOutput (codes "synth" ∷ []) one_place (output (codes "void f(v1) {\n  error;\n}\n") Program)
+unfolding digits lexed piece_at sign_at stands name_kind satisfiable arrangements class_literals arrangement_fits ints_fit all_cases both joined eliminate eliminate_all feasible all_terms all_set_vars regions_fit entailed
+one_place_said = (judge (tree_of one_place), inl (tree_of one_place, assumption refl, refl), refl)
+
+abbrev itself : List ℕ
+itself = codes "predicate p(loc x) { | x == 0 => { emp } | x != 0 => { p(x) } } void f(loc x) { emp } { emp }"
+
+itself_said : IsWholeOutput (codes "synth" ∷ []) itself (output (codes "refused: Unproductive at 41\n") Refused)
+unfolding digits lexed piece_at sign_at stands name_kind satisfiable arrangements class_literals arrangement_fits ints_fit all_cases both joined eliminate eliminate_all feasible all_terms all_set_vars regions_fit entailed
+itself_said = (judge (tree_of itself), inl (tree_of itself, assumption refl, refl), refl)
