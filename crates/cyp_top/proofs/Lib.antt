@@ -2,6 +2,7 @@ pub mod ChainExamples
 pub mod Examples
 pub mod ListExamples
 pub mod Outputs
+pub mod RunExamples
 pub mod RunOutputs
 pub mod Sending
 pub mod WholeExamples
