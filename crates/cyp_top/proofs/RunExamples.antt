@@ -1,10 +1,9 @@
 -- A worked output of `run`: a cell of the block that is given back is missing.
-use Rattle.std.proofs.Common.{[], Err, List, None, Ok, Option, Result, Some, ap, arith, inl, inr, int_cmp, is_some, pos, refl, true, ℕ, ℤ, ◌&&◌, ◌<◌, ◌∙◌, ◌∷◌, ◌≡◌}
+use Rattle.std.proofs.Common.{[], Err, List, None, Ok, Option, Result, Some, ap, arith, inl, inr, is_some, pos, refl, true, ℕ, ℤ, ◌&&◌, ◌∙◌, ◌∷◌, ◌≡◌}
 use Rattle.std.proofs.lemmas.Cmp.{int_cmp_total}
 use Rattle.std.specs.FinMap.{get, get-from_entries}
 use Rattle.std.specs.Fmt.{digits}
 use Rattle.std.specs.Prelude.{codes, false}
-use Rattle.cyp_heap.specs.Stores.{Store}
 use Rattle.cyp_lex.specs.Lexing.{lexed, name_kind, piece_at, program_tokens_of, sign_at, stands}
 use Rattle.cyp_lex.specs.declared.fault.Fault.{Fault}
 use Rattle.cyp_lex.specs.declared.token.Token.{Token}

@@ -1,5 +1,5 @@
 -- Worked outputs of words and bytes.
-use Rattle.std.proofs.Common.{Err, List, inl, refl, ℕ, [], ◌∷◌}
+use Rattle.std.proofs.Common.{List, inl, refl, ℕ, [], ◌∷◌}
 use Rattle.std.specs.Fmt.{digits}
 use Rattle.std.specs.Prelude.{codes}
 use Rattle.cyp_lex.specs.Lexing.{lexed, name_kind, piece_at, sign_at, stands}
