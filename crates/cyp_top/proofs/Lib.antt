@@ -1,11 +1,14 @@
 pub mod ChainExamples
 pub mod Examples
+pub mod ListExamples
 pub mod Outputs
 mod RowsCells
 mod RowsChain
 mod RowsEdges
 mod RowsLists
 pub mod RowsShort
+pub mod RunExamples
 pub mod RunOutputs
 pub mod Sending
+pub mod WholeExamples
 pub mod WholeOutputs
