@@ -1,5 +1,7 @@
+pub mod Allocated
 pub mod Calls
 pub mod CellUnions
+pub mod Counts
 pub mod Effects
 pub mod Examples
 pub mod Followed
@@ -13,5 +15,6 @@ pub mod InputExact
 pub mod InputExamples
 pub mod Inputs
 pub mod Joined
+pub mod Kept
 pub mod Least
 pub mod Options
