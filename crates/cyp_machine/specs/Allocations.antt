@@ -1,5 +1,5 @@
 -- How many cells runs allocate.
-use Rattle.std.specs.Prelude.{[], ◌&&◌, ◌*◌, ◌+◌, Bool, IsTrue, List, nat_le, suc, true, zero, ℕ, ℤ, ◌∷◌, ◌≤◌}
+use Rattle.std.specs.Prelude.{[], ◌&&◌, ◌*◌, ◌+◌, Bool, IsTrue, List, nat_le, suc, true, zero, ℕ, ℤ, ◌∷◌, ◌≡◌, ◌≤◌}
 use Rattle.std.specs.List.{list_all}
 use Rattle.cyp_heap.specs.Stores.{Store, cell_count}
 use Rattle.cyp_machine.specs.Runs.{Run}
@@ -27,6 +27,10 @@ frames_allocate (f ∷ below) = body_allocates f.rest
 abbrev pub allocated : (ps : List Procedure) (n : ℕ) (s t : State) → Run ps n s t → ℕ
 allocated ps zero s t run = 0
 allocated ps (suc n) s t run = frames_allocate s.frames + allocated ps n run.0 t run.2
+
+-- a run of n steps that allocates c cells
+abbrev pub RunAllocates : List Procedure → ℕ → ℕ → State → State → Type 0
+RunAllocates ps n c s t = (run : Run ps n s t) × (allocated ps n s t run ≡ c)
 
 -- ---- programs whose allocations are of few cells
 
