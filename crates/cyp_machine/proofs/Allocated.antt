@@ -1,5 +1,6 @@
 -- The cells of a run are those of its first heap and those that it has allocated.
-use Rattle.std.proofs.Common.{[], ◌*◌, ◌+◌, ◌∷◌, List, arith, leb-true, refl, subst, suc, sym, true, zero, ℕ, ◌≡◌, ◌≤◌}
+use Rattle.std.proofs.Common.{[], ◌*◌, ◌+◌, List, arith, leb-true, refl, subst, suc, sym, true, zero, ℕ, ◌∷◌, ◌≡◌, ◌≤◌}
+use Rattle.std.proofs.lemmas.Bool.{and_parts}
 use Rattle.std.specs.FinMap.{len}
 use Rattle.cyp_heap.specs.Stores.{Store, cell_count}
 use Rattle.cyp_machine.proofs.Counts.{change_count, insert_all_count, remove_all_count}
@@ -10,7 +11,6 @@ use Rattle.cyp_machine.specs.States.{Frame, State, start}
 use Rattle.cyp_machine.specs.Steps.{Becomes, BodyStep, FramesStep, StatementStep, addresses, any_pick, insert_all}
 use Rattle.cyp_machine.specs.Values.{Values, expr_value}
 use Rattle.cyp_prog.specs.Programs.{Body, Choosing, End, Failing, Giving, Invoking, Loading, Procedure, Statement, Storing, Taking, Then}
-use Rattle.std.proofs.lemmas.Bool.{and_parts}
 
 -- ---- a step
 

@@ -1,11 +1,11 @@
 -- A state of a run that has neither ended nor a fault has a next step.
-use Rattle.std.proofs.Common.{[], ap, ◌∙◌, ◌<◌, Bool, List, None, Some, arith, false, inl, inr, is_some, length, ltb-true, pos, refl, replicate, slice_get, suc, sym, true, zero, ℕ, ℤ, ◌∷◌, ◌≡◌, ◌≤◌}
-use Rattle.std.specs.Prelude.{nat_lt}
+use Rattle.std.proofs.Common.{[], ◌<◌, Bool, List, None, Some, ap, arith, false, inl, inr, is_some, length, ltb-true, pos, refl, replicate, slice_get, suc, sym, true, zero, ℕ, ℤ, ◌∙◌, ◌∷◌, ◌≡◌, ◌≤◌}
 use Rattle.std.proofs.lemmas.Bool.{and_parts, false≢true}
 use Rattle.std.proofs.lemmas.List.{length-replicate}
 use Rattle.std.proofs.lemmas.Option.{slice_get_cases}
 use Rattle.std.specs.FinMap.{get}
 use Rattle.std.specs.List.{list_all}
+use Rattle.std.specs.Prelude.{nat_lt}
 use Rattle.cyp_heap.specs.Stores.{Store}
 use Rattle.cyp_machine.proofs.Effects.{Calls, Effect, Goes, after, effect}
 use Rattle.cyp_machine.proofs.FreeBases.{least_free, zeros_zero}

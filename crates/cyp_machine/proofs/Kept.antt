@@ -1,8 +1,8 @@
 -- A test that holds of all statements of a program holds of all that its runs come to.
 use Rattle.std.proofs.Common.{[], Bool, List, None, Option, Some, cond, false, map, refl, slice_get, subst, suc, sym, true, zero, ℕ, ℤ, ◌∙◌, ◌∷◌, ◌≡◌}
-use Rattle.std.specs.Prelude.{◌&&◌}
 use Rattle.std.proofs.lemmas.Bool.{and_from, and_parts}
 use Rattle.std.specs.List.{list_all}
+use Rattle.std.specs.Prelude.{◌&&◌}
 use Rattle.cyp_heap.specs.Stores.{Store}
 use Rattle.cyp_machine.specs.Runs.{Run}
 use Rattle.cyp_machine.specs.States.{Frame, State, entry_body, start}

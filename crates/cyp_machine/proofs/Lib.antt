@@ -18,3 +18,4 @@ pub mod Joined
 pub mod Kept
 pub mod Least
 pub mod Options
+pub mod PartsExamples

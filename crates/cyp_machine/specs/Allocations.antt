@@ -1,6 +1,6 @@
 -- How many cells runs allocate.
-use Rattle.std.specs.Prelude.{[], ◌&&◌, ◌*◌, ◌+◌, Bool, IsTrue, List, nat_le, suc, true, zero, ℕ, ℤ, ◌∷◌, ◌≡◌, ◌≤◌}
 use Rattle.std.specs.List.{list_all}
+use Rattle.std.specs.Prelude.{[], ◌&&◌, ◌*◌, ◌+◌, Bool, IsTrue, List, nat_le, suc, true, zero, ℕ, ℤ, ◌∷◌, ◌≡◌, ◌≤◌}
 use Rattle.cyp_heap.specs.Stores.{Store, cell_count}
 use Rattle.cyp_machine.specs.Runs.{Run}
 use Rattle.cyp_machine.specs.States.{Frame, State, start}

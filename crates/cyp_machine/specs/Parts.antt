@@ -1,4 +1,4 @@
--- Runs in parts: one run after another, one body after another, and a call within its caller.
+-- Runs in parts: one run after another, one body after another, and a call within its caller. Steps and allocated cells add up.
 use Rattle.std.specs.Prelude.{[], ◌+◌, ◌++◌, List, Some, false, map, slice_get, suc, ℕ, ◌∷◌, ◌≡◌, ◌⊎◌}
 use Rattle.cyp_heap.specs.Stores.{Store}
 use Rattle.cyp_machine.specs.Allocations.{RunAllocates}
@@ -19,12 +19,12 @@ state h fs = record { store = h; frames = fs }
 
 -- ---- one run after another
 
--- a run to a state and a run from it are a run
+-- a run to a state and a run from it are a run, of the steps and the allocated cells of both
 abbrev pub JoinLaw : Type 0
 JoinLaw = (ps : List Procedure) (m n c d : ℕ) (s t u : State)
     → RunAllocates ps m c s t → RunAllocates ps n d t u → RunAllocates ps (m + n) (c + d) s u
 
--- a run is a run of its first steps and one of the others
+-- a run is a run of its first steps and one of the others, and what these allocate is what it allocates
 abbrev pub SplitLaw : Type 0
 SplitLaw = (ps : List Procedure) (m n c : ℕ) (s u : State) → RunAllocates ps (m + n) c s u
     → (t : State) × (d : ℕ) × (e : ℕ) × (d + e ≡ c) × RunAllocates ps m d s t × RunAllocates ps n e t u
