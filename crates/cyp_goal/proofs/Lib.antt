@@ -1,6 +1,7 @@
 pub mod Added
 pub mod AllNew
 pub mod EachVar
+mod Examples
 pub mod Extended
 pub mod FirstSolved
 pub mod Fits

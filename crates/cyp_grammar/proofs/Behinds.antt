@@ -2,7 +2,7 @@
 use Rattle.std.proofs.Common.{◌≡◌, ℕ, Bool, true, false, List, [], ◌∷◌, ◌⊎◌, inl, inr, refl, ap, subst}
 use Rattle.cyp_grammar.specs.Lexemes.{Lexeme, Name, Said}
 use Rattle.cyp_grammar.specs.Spelling.{Ident, Mark, Then, ident, more_spelling}
-use Rattle.cyp_grammar.specs.Readers.{Read}
+use Rattle.cyp_grammar.proofs.Readers.{Read}
 use Rattle.cyp_grammar.proofs.Spellings.{then_split}
 use Rattle.cyp_grammar.proofs.Readings.{Reads}
 use Rattle.cyp_grammar.proofs.Singles.{one}

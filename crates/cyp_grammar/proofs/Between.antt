@@ -2,9 +2,9 @@
 use Rattle.std.proofs.Common.{◌≡◌, ℕ, suc, Bool, true, false, List, [], ◌∷◌, ◌++◌, ◌⊎◌, Result, Ok, Err, inl, inr, refl, sym, ap, subst, ◌∙◌, append_assoc, length, arith}
 use Rattle.cyp_grammar.specs.Beginnings.{Begins, Refused}
 use Rattle.cyp_grammar.specs.Lexemes.{Lexeme, Said}
-use Rattle.cyp_grammar.specs.Readers.{AName, Read, Stop}
+use Rattle.cyp_grammar.proofs.Readers.{AName, Read, Stop}
 use Rattle.cyp_grammar.specs.Spelling.{Any, IsEnd, Mark, Match, Then}
-use Rattle.cyp_grammar.specs.Stops.{IsReading, whole_of}
+use Rattle.cyp_grammar.proofs.Stops.{IsReading, whole_of}
 use Rattle.cyp_grammar.proofs.Spellings.{head_is, then_join, then_put, then_split}
 use Rattle.cyp_grammar.proofs.Readings.{Next, Reads, SameHead, Sound, Stuck, Took}
 use Rattle.cyp_grammar.proofs.Lists.{made}

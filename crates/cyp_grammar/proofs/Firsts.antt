@@ -2,7 +2,7 @@
 use Rattle.std.proofs.Common.{◌≡◌, ℕ, Bool, true, false, ◌||◌, List, [], ◌∷◌, ◌++◌, Option, None, ◌⊎◌, inl, inr, refl, sym, ap, subst, ◌∙◌}
 use Rattle.cyp_grammar.specs.Lexemes.{Lexeme, Said}
 use Rattle.cyp_grammar.specs.Spelling.{Ident, Mark, Match, ident}
-use Rattle.cyp_grammar.specs.Readers.{IsNamed, Read, Want, first_tells, heads, ident_of, one_of}
+use Rattle.cyp_grammar.proofs.Readers.{IsNamed, Read, Want, first_tells, heads, ident_of, one_of}
 use Rattle.cyp_grammar.proofs.Spellings.{append_nil, match_join}
 use Rattle.cyp_grammar.proofs.Readings.{Apart, Reads, Within}
 use Rattle.cyp_grammar.proofs.Sequences.{spell_both}

@@ -1,65 +1,22 @@
--- The predicate of lists with their sets of contents: it is formed, and holds of the empty list and of a list of one.
+-- The predicate of lists with their sets of contents: it is formed, and holds of the empty list and of a list of one. Then units of nodes, and the order of chunks.
 use Rattle.std.proofs.Common.{◌≡◌, refl, ap, ◌∙◌, ℕ, zero, suc, Bool, true, false, ◌&&◌, List, [], ◌∷◌, ℤ, pos, ◌<ℤ◌, None, arith}
 use Rattle.std.specs.Ordering.{int_cmp}
 use Rattle.std.specs.Cmp.{int_cmp_total}
 use Rattle.std.specs.FinMap.{empty, get, insert, get-empty, get-insert}
 use Rattle.std.proofs.lemmas.Int.{ints}
+use Rattle.cyp_heap.specs.Chunks.{put_all}
 use Rattle.cyp_heap.specs.Instances.{InstanceHolds, Members, Number}
+use Rattle.cyp_heap.specs.Limits.{node_units}
 use Rattle.cyp_heap.specs.PredsFormed.{IsFormedPreds, clause_guards, is_productive, none_overlap}
 use Rattle.cyp_heap.specs.Stores.{Store, no_store}
-use Rattle.cyp_heap.specs.declared.chunk.Arg.TheVariants.{Int as IntArg, Set as SetArg}
-use Rattle.cyp_heap.specs.declared.chunk.Chunk.TheVariants.{Block, Cell, Inst}
-use Rattle.cyp_heap.specs.declared.pred.Clause.{Clause}
-use Rattle.cyp_heap.specs.declared.pred.Pred.{Pred}
-use Rattle.cyp_heap.specs.declared.pred.Preds.{Preds}
+use Rattle.cyp_heap.specs.declared.chunk.Chunk.TheVariants.{Inst}
 use Rattle.cyp_term.specs.Entailment.{arrangement_fits, arrangements, class_literals, satisfiable}
 use Rattle.cyp_term.specs.Integers.{all_cases, all_zero, both, eliminate, eliminate_all, feasible, ints_fit, joined}
 use Rattle.cyp_term.specs.Meaning.{Assignment}
 use Rattle.cyp_term.specs.Regions.{all_set_vars, all_terms, regions_fit}
-use Rattle.cyp_term.specs.Terms.{number_term, plus, set_var, var_term}
-use Rattle.cyp_term.specs.declared.lit.Lit.TheVariants.{Eq, Ne, Same}
-use Rattle.cyp_term.specs.declared.lit.SetTerm.{SetTerm}
-use Rattle.cyp_term.specs.declared.term.Sort.TheVariants.{Int, Set}
-use Rattle.cyp_term.specs.declared.term.Term.{Term}
+use Rattle.cyp_term.specs.declared.lit.Lit.TheVariants.{Eq, Ne}
+use Rattle.cyp_heap.proofs.Short.{S, X, block, cell, cons, dispose, list_at, lists, nil, sll, write_five}
 use Rattle.cyp_heap.proofs.Unions.{beside_nothing, empty_beside, nothing_beside, one_beside}
-
-abbrev int : ℕ → Term
-int n = var_term (record { sort = Int; number = n })
-
-abbrev set : ℕ → SetTerm
-set n = set_var (record { sort = Set; number = n })
-
--- x == 0 => { s =i {} ; emp }
-abbrev nil : Clause
-nil = record {
-  guard = Eq (int 0) (number_term (pos 0));
-  lits = Same (set 0) (record { vars = []; elems = [] }) ∷ [];
-  heap = record { chunks = [] };
-  ints = 1;
-  sets = 1;
-}
-
--- not (x == 0) => { s =i {v} ++ t ; [x, 2] ** x :-> v ** (x + 1) :-> n ** sll(n, t) }
-abbrev cons : Clause
-cons = record {
-  guard = Ne (int 0) (number_term (pos 0));
-  lits = Same (set 0) (record { vars = (record { sort = Set; number = 1 }) ∷ []; elems = int 1 ∷ [] }) ∷ [];
-  heap = record {
-    chunks = Inst (record { pred = 0; args = IntArg (int 2) ∷ SetArg (set 1) ∷ []; card = None; tag = 0 })
-        ∷ Block (record { at = int 0; size = 2 })
-        ∷ Cell (record { at = int 0; content = int 1 })
-        ∷ Cell (record { at = plus (int 0) (pos 1); content = int 2 })
-        ∷ [];
-  };
-  ints = 3;
-  sets = 2;
-}
-
-abbrev sll : Pred
-sll = record { name = 115 ∷ 108 ∷ 108 ∷ []; params = Int ∷ Set ∷ []; clauses = nil ∷ cons ∷ [] }
-
-abbrev lists : Preds
-lists = record { list = sll ∷ [] }
 
 apart : none_overlap (clause_guards sll) ≡ true
 unfolding joined eliminate eliminate_all feasible both all_cases ints_fit arrangements class_literals arrangement_fits satisfiable regions_fit all_terms all_set_vars
@@ -162,10 +119,25 @@ list_of_one = (
 -- ---- what isn't formed
 
 -- two guards that can both hold
-not_apart : none_overlap (Eq (int 0) (int 0) ∷ Ne (int 0) (int 1) ∷ []) ≡ false
+not_apart : none_overlap (Eq (X 0) (X 0) ∷ Ne (X 0) (X 1) ∷ []) ≡ false
 unfolding joined eliminate eliminate_all feasible both all_cases ints_fit arrangements class_literals arrangement_fits satisfiable regions_fit all_terms all_set_vars
 not_apart = refl
 
 -- an instance beside a block, without a cell
-unproductive : is_productive (record cons { heap = record { chunks = Inst (record { pred = 0; args = []; card = None; tag = 0 }) ∷ Block (record { at = int 0; size = 2 }) ∷ [] } }) ≡ false
+unproductive : is_productive (record cons { heap = record { chunks = Inst (record { pred = 0; args = []; card = None; tag = 0 }) ∷ block (X 0) 2 ∷ [] } }) ≡ false
 unproductive = refl
+
+-- ---- nodes
+
+-- a program variable, two cells with an address and a content each
+write_units : node_units write_five ≡ 7
+write_units = refl
+
+-- a program variable, an instance of an address and a set variable
+dispose_units : node_units dispose ≡ 4
+dispose_units = refl
+
+-- instances stand before blocks and blocks before cells, each kind in the order in which they come
+put_in_order : put_all (cell (X 0) (X 1) ∷ []) (cell (X 2) (X 3) ∷ block (X 2) 1 ∷ list_at (X 4) (S 0) None ∷ block (X 0) 1 ∷ [])
+    ≡ list_at (X 4) (S 0) None ∷ block (X 2) 1 ∷ block (X 0) 1 ∷ cell (X 0) (X 1) ∷ cell (X 2) (X 3) ∷ []
+put_in_order = refl

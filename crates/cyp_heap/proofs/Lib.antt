@@ -8,4 +8,5 @@ pub mod Heights
 pub mod Listings
 pub mod PrefixTuples
 pub mod SameChunks
+pub mod Short
 pub mod Unions

@@ -2,5 +2,6 @@ pub mod BoundAlone
 pub mod BoundEquation
 pub mod BoundGrowth
 pub mod ClosedPrograms
-pub mod Examples
+mod Examples
+mod ExamplesPrograms
 pub mod LowerMeasures

@@ -1,23 +1,23 @@
 -- Worked examples of the input of a run.
-use Rattle.std.proofs.Common.{◌≡◌, ◌++◌, [], ◌∷◌, Bool, Err, List, Ok, Result, arith, drop, false, inl, inr, refl, subst, sym, true, ℕ}
+use Rattle.std.proofs.Common.{◌≡◌, ◌++◌, [], ◌∷◌, Err, List, Ok, Result, arith, drop, false, inl, inr, refl, subst, true, ℕ}
 use Rattle.std.specs.FinMap.{from_entries}
 use Rattle.std.specs.Prelude.{codes, neg_ℤ, pos}
 use Rattle.cyp_grammar.proofs.Spellings.{then_split}
 use Rattle.cyp_grammar.specs.Beginnings.{Begins}
-use Rattle.cyp_grammar.specs.Lexemes.{Lexeme, Name, Reserved, Symbol, Variable}
+use Rattle.cyp_grammar.specs.Lexemes.{Lexeme, Name, Variable}
 use Rattle.cyp_grammar.specs.Spelling.{IsEnd, Then, all_spelling}
 use Rattle.cyp_lex.specs.Lexing.{lexed, name_kind, piece_at, program_tokens_of, sign_at, stands}
 use Rattle.cyp_lex.specs.declared.fault.Fault.{Fault}
 use Rattle.cyp_lex.specs.declared.token.Token.{Token}
-use Rattle.cyp_machine.specs.RunInput.{BlockPiece, CellPiece, InputTree, IsInputReading, NumTree, RunInput, input_spelling, start_spelling}
-use Rattle.cyp_prog.proofs.Exact.{Both}
-use Rattle.cyp_prog.proofs.ProgramExact.{proc_exact}
+use Rattle.cyp_machine.specs.RunInput.{BlockPiece, CellPiece, InputTree, IsInputReading, RunInput, input_spelling, start_spelling}
+use Rattle.cyp_prog.proofs.Exact.{reads_exact}
+use Rattle.cyp_prog.proofs.ProgramLaws.{proc_reads}
 use Rattle.cyp_prog.proofs.Shallow.{few_braces}
 use Rattle.cyp_prog.specs.Faults.{Expected, NumberRange}
 use Rattle.cyp_prog.specs.Grammar.{proc_spelling, program_spelling}
 use Rattle.cyp_prog.specs.Lexemes.{program_lexemes}
 use Rattle.cyp_prog.specs.Programs.{End}
-use Rattle.cyp_prog.specs.Trees.{NoStmts, ProcTree, ProgramTree}
+use Rattle.cyp_prog.specs.Trees.{NoStmts, ProcTree}
 
 found : Result (List Token) Fault → List Token
 found (Ok ts) = ts
@@ -34,9 +34,11 @@ one_cell = codes "void f(v1) { } start f(7) { [7, 1] ** 7 :-> -3 }"
 one_cell_tree : InputTree
 one_cell_tree = record {
   program = record { first = record { name = record { text = codes "f"; place = 5 }; params = record { number = 1; place = 7 } ∷ []; body = NoStmts }; others = [] };
-  name = record { text = codes "f"; place = 21 };
-  args = record { minus = false; place = 23; n = 7 } ∷ [];
-  pieces = BlockPiece 29 7 32 1 ∷ CellPiece 38 7 (record { minus = true; place = 45; n = 3 }) ∷ [];
+  start = record {
+    name = record { text = codes "f"; place = 21 };
+    args = record { minus = false; place = 23; n = 7 } ∷ [];
+    pieces = BlockPiece 29 7 32 1 ∷ CellPiece 38 7 (record { minus = true; place = 45; n = 3 }) ∷ [];
+  };
 }
 
 one_cell_input : RunInput
@@ -69,9 +71,11 @@ great_size = codes "void f() { } start f() { [5, 3000000000] }"
 great_size_tree : InputTree
 great_size_tree = record {
   program = record { first = record { name = record { text = codes "f"; place = 5 }; params = []; body = NoStmts }; others = [] };
-  name = record { text = codes "f"; place = 19 };
-  args = [];
-  pieces = BlockPiece 26 5 29 3000000000 ∷ [];
+  start = record {
+    name = record { text = codes "f"; place = 19 };
+    args = [];
+    pieces = BlockPiece 26 5 29 3000000000 ∷ [];
+  };
 }
 
 great_size_is_refused : IsInputReading great_size (Err (record { kind = NumberRange; place = 29 }))
@@ -98,9 +102,11 @@ g_tree = record { name = record { text = codes "g"; place = 5 }; params = record
 started_tree : InputTree
 started_tree = record {
   program = record { first = g_tree; others = [] };
-  name = record { text = codes "g"; place = 21 };
-  args = record { minus = false; place = 23; n = 0 } ∷ [];
-  pieces = [];
+  start = record {
+    name = record { text = codes "g"; place = 21 };
+    args = record { minus = false; place = 23; n = 0 } ∷ [];
+    pieces = [];
+  };
 }
 
 start_word : Lexeme
@@ -113,7 +119,7 @@ header : List Lexeme
 header = lexemes_in (codes "void g(v2) { }")
 
 -- behind a program and `start` no variable stands
-no_start : (others : List ProcTree) (t : InputTree) (rest : List Lexeme) → Then (all_spelling proc_spelling others) (Then (start_spelling t) IsEnd) (start_word ∷ v1_there ∷ rest) → ⊥
+no_start : (others : List ProcTree) (t : InputTree) (rest : List Lexeme) → Then (all_spelling proc_spelling others) (Then (start_spelling t.start) IsEnd) (start_word ∷ v1_there ∷ rest) → ⊥
 unfolding start_word v1_there
 no_start [] t rest h = cc (h.1.0.0)
 no_start (o ∷ os) t rest h = cc (h.0)
@@ -123,10 +129,10 @@ unfolding header lexemes_in found lexed piece_at sign_at stands name_kind g_tree
 no_variable h =
     let behind : List Lexeme = start_word ∷ v1_there ∷ h.1 in
     let t : InputTree = h.0 in
-    let program = then_split (program_spelling t.program) (start_spelling t) IsEnd (header ++ behind) h.2 in
-    let first = then_split (proc_spelling t.program.first) (all_spelling proc_spelling t.program.others) (Then (start_spelling t) IsEnd) (header ++ behind) program in
-    let rest = proc_exact g_tree t.program.first (λ ls. ls ≡ behind) (Then (all_spelling proc_spelling t.program.others) (Then (start_spelling t) IsEnd)) (header ++ behind) (search) first in
-    no_start t.program.others t h.1 (subst (λ ls. Then (all_spelling proc_spelling t.program.others) (Then (start_spelling t) IsEnd) ls) rest.1.1 rest.1.2)
+    let program = then_split (program_spelling t.program) (start_spelling t.start) IsEnd (header ++ behind) h.2 in
+    let first = then_split (proc_spelling t.program.first) (all_spelling proc_spelling t.program.others) (Then (start_spelling t.start) IsEnd) (header ++ behind) program in
+    let rest = reads_exact proc_reads g_tree t.program.first (λ ls. ls ≡ behind) (Then (all_spelling proc_spelling t.program.others) (Then (start_spelling t.start) IsEnd)) (λ l ls k. refl) (λ l ls k. refl) (header ++ behind) (search) first in
+    no_start t.program.others t h.1 (subst (λ ls. Then (all_spelling proc_spelling t.program.others) (Then (start_spelling t.start) IsEnd) ls) rest.1.1 rest.1.2)
 
 started_variable_is_refused : IsInputReading started_variable (Err (record { kind = Expected; place = 21 }))
 unfolding lexed piece_at sign_at stands name_kind found lexemes_in header start_word v1_there started_variable started_tree g_tree

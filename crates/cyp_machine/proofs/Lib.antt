@@ -1,6 +1,7 @@
 pub mod Allocated
 pub mod Calls
 pub mod CellUnions
+pub mod ClosedPrograms
 pub mod Counts
 pub mod Effects
 pub mod Examples
@@ -11,11 +12,14 @@ pub mod FreeBases
 pub mod Going
 pub mod Halted
 pub mod InnerRuns
-pub mod InputExact
 pub mod InputExamples
+pub mod InputLaws
 pub mod Inputs
 pub mod Joined
 pub mod Kept
 pub mod Least
+pub mod LeastRuns
+pub mod LineLaws
 pub mod Options
 pub mod PartsExamples
+pub mod RunInputReaders

@@ -1,8 +1,10 @@
 pub mod Allocations
 pub mod Closed
+pub mod ClosedLaws
 pub mod Faults
 pub mod Framing
 pub mod Laws
+pub mod LeastRunLaws
 pub mod Parts
 pub mod RunInput
 pub mod RunInputLaws

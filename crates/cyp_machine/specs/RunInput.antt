@@ -6,7 +6,7 @@
 --     num    = NUMBER | "-" NUMBER
 use Rattle.std.specs.FinMap.{from_entries}
 use Rattle.std.specs.List.{list_any}
-use Rattle.std.specs.Prelude.{[], ◌&&◌, ◌++◌, ◌==◌, Bool, List, Ok, Result, codes, cond, flat_map, length, map, nat_le, neg_ℤ, not, pos, ℕ, ℤ, ◌∷◌}
+use Rattle.std.specs.Prelude.{[], ◌++◌, ◌==◌, Bool, List, Result, codes, cond, flat_map, length, map, nat_le, neg_ℤ, not, pos, ℕ, ℤ, ◌∷◌}
 use Rattle.cyp_grammar.specs.Lexemes.{Name, Number, Symbol}
 use Rattle.cyp_grammar.specs.Spelling.{Any, At, Ident, Mark, ident, list_spelling, separated, sign, word}
 use Rattle.cyp_heap.specs.Stores.{Store}
@@ -18,7 +18,7 @@ use Rattle.cyp_prog.specs.Grammar.{program_spelling}
 use Rattle.cyp_prog.specs.Passes.{IsReading, Syntax}
 use Rattle.cyp_prog.specs.Programs.{Procedure}
 use Rattle.cyp_prog.specs.TreePrograms.{proc_place, program_of_tree}
-use Rattle.cyp_prog.specs.Trees.{ProgramTree, procs_of}
+use Rattle.cyp_prog.specs.Trees.{ProcTree, ProgramTree, procs_of}
 
 -- ---- trees
 
@@ -33,11 +33,16 @@ pub data PieceTree : Type 0 where
   BlockPiece : (place base size_place size : ℕ) → PieceTree
   CellPiece : (place address : ℕ) → NumTree → PieceTree
 
-pub record InputTree : Type 0 where
-  pub program : ProgramTree
+-- the start line: the called procedure, the arguments, and the pieces of the heap
+pub record StartTree : Type 0 where
   pub name : Ident
   pub args : List NumTree
   pub pieces : List PieceTree
+
+-- a program and its start line
+pub record InputTree : Type 0 where
+  pub program : ProgramTree
+  pub start : StartTree
 
 -- ---- spelling
 
@@ -45,6 +50,7 @@ pub record InputTree : Type 0 where
 abbrev pub num_spelling : NumTree → List Mark
 num_spelling t = cond t.minus (sign Minus ∷ At (Number t.n) t.place ∷ []) (At (Number t.n) t.place ∷ [])
 
+-- a block in brackets, or a cell with its content
 abbrev pub piece_spelling : PieceTree → List Mark
 piece_spelling (BlockPiece p b q n) = sign LeftBracket ∷ At (Number b) p ∷ sign Comma ∷ At (Number n) q ∷ sign RightBracket ∷ []
 piece_spelling (CellPiece p a t) = At (Number a) p ∷ sign PointsTo ∷ num_spelling t
@@ -54,17 +60,22 @@ abbrev pub pieces_spelling : List PieceTree → List Mark
 pieces_spelling [] = word Emp ∷ []
 pieces_spelling (p ∷ ps) = list_spelling (Symbol TwoStars) piece_spelling p ps
 
+-- the arguments with a comma between each two
 abbrev pub args_spelling : List NumTree → List Mark
 args_spelling ts = separated (Symbol Comma) num_spelling ts
 
--- the word `start` is a name elsewhere
-abbrev pub start_spelling : InputTree → List Mark
-start_spelling t =
-    Any (Name (codes "start")) ∷ ident t.name ∷ sign LeftParen
-    ∷ (args_spelling t.args ++ (sign RightParen ∷ sign LeftBrace ∷ (pieces_spelling t.pieces ++ sign RightBrace ∷ [])))
+-- the start line behind its first word
+abbrev pub line_spelling : StartTree → List Mark
+line_spelling t =
+    ident t.name ∷ sign LeftParen ∷ (args_spelling t.args ++ (sign RightParen ∷ sign LeftBrace ∷ (pieces_spelling t.pieces ++ sign RightBrace ∷ [])))
 
+-- the word `start` is a name elsewhere
+abbrev pub start_spelling : StartTree → List Mark
+start_spelling t = Any (Name (codes "start")) ∷ line_spelling t
+
+-- a program, and then the start line
 abbrev pub input_spelling : InputTree → List Mark
-input_spelling t = program_spelling t.program ++ start_spelling t
+input_spelling t = program_spelling t.program ++ start_spelling t.start
 
 -- ---- faults of the third pass
 
@@ -85,14 +96,18 @@ piece_faults bases addresses (BlockPiece p b q n ∷ ps) =
 piece_faults bases addresses (CellPiece p a t ∷ ps) =
     key_faults addresses p a ++ range_faults t.place t.n ++ piece_faults bases (a ∷ addresses) ps
 
+-- the called procedure is to be one of these
+abbrev pub start_faults : List ProcTree → StartTree → List ProgFault
+start_faults qs t =
+    call_faults qs t.name (length t.args) ++ flat_map (λ (a : NumTree). range_faults a.place a.n) t.args ++ piece_faults [] [] t.pieces
+
 -- those of the program, and those of the start line
 abbrev pub input_faults : InputTree → List ProgFault
-input_faults t =
-    program_faults t.program ++ call_faults (procs_of t.program) t.name (length t.args)
-    ++ flat_map (λ (a : NumTree). range_faults a.place a.n) t.args ++ piece_faults [] [] t.pieces
+input_faults t = program_faults t.program ++ start_faults (procs_of t.program) t.start
 
 -- ---- what an input says
 
+-- the integer that a number says, negative behind a minus
 abbrev pub num_of : NumTree → ℤ
 num_of t = cond t.minus (neg_ℤ (pos t.n)) (pos t.n)
 
@@ -108,6 +123,7 @@ blocks_of [] = []
 blocks_of (BlockPiece p b q n ∷ ps) = (pos b, n) ∷ blocks_of ps
 blocks_of (CellPiece p a t ∷ ps) = blocks_of ps
 
+-- the heap of these pieces
 abbrev pub store_of : List PieceTree → Store
 store_of ps = record { cells = from_entries (cells_of ps); blocks = from_entries (blocks_of ps) }
 
@@ -118,16 +134,18 @@ pub record RunInput : Type 0 where
   pub args : List ℤ
   pub store : Store
 
+-- the input that a tree says
 abbrev pub input_of : InputTree → RunInput
 input_of t = record {
   program = program_of_tree t.program;
-  entry = proc_place t.name.text (procs_of t.program);
-  args = map num_of t.args;
-  store = store_of t.pieces;
+  entry = proc_place t.start.name.text (procs_of t.program);
+  args = map num_of t.start.args;
+  store = store_of t.start.pieces;
 }
 
 -- ---- readings
 
+-- inputs of runs as texts
 abbrev pub input_syntax : Syntax InputTree RunInput
 input_syntax = record { spelling = input_spelling; faults = input_faults; said = input_of }
 

@@ -1,11 +1,12 @@
-ghost use Rattle.cyp_machine.specs.RunInputLaws.{OneInputTree, OneInputReading};
+ghost use Rattle.cyp_machine.specs.RunInputLaws.{OneInputTree, SomeInputReading, OneInputReading};
 
 /// Law: lexemes spell one tree of a run's input at most.
 pub fn lexemes_spell_one_input()
     ensures { OneInputTree }
 {}
 
-/// Law: a text has one reading at most, the input of a run or a fault.
+/// Law: a text has one reading and no other, the input of a run or a fault.
 pub fn an_input_has_one_reading()
-    ensures { OneInputReading }
+    ensures some { SomeInputReading }
+    ensures alone { OneInputReading }
 {}

@@ -37,7 +37,7 @@ compare (l ∷ a) b (k ∷ c) d e =
     subst (λ (x : Lexeme). Compared (l ∷ a) b (x ∷ c) d) heads (more_compared l a b c d (compare a b c d tails))
 
 -- a beginning of a beginning is one
-begun : {A : Type 0} (spell : A → List Mark) (a b : List Lexeme) → Begins spell (a ++ b) → Begins spell a
+pub begun : {A : Type 0} (spell : A → List Mark) (a b : List Lexeme) → Begins spell (a ++ b) → Begins spell a
 begun spell a b h = (h.0, b ++ h.1, subst (λ (ls : List Lexeme). Match (spell h.0) ls) (append_assoc a b h.1) h.2)
 
 -- nothing is refused inside a beginning that is shallow
@@ -55,7 +55,7 @@ pub passed : {A : Type 0} (spell : A → List Mark) (before rest longer : List L
     → Begins spell longer → IsShallow longer → IsRefused spell before rest k → ⊥
 passed spell before rest longer k g b s h =
     passed_by spell before g.after g.next g.more k
-      (subst (λ (ls : List Lexeme). Begins spell ls) g.is b) (subst (λ (ls : List Lexeme). IsShallow ls) g.is s) (subst (λ (ls : List Lexeme). IsRefused spell before ls k) g.begins h)
+    (subst (λ (ls : List Lexeme). Begins spell ls) g.is b) (subst (λ (ls : List Lexeme). IsShallow ls) g.is s) (subst (λ (ls : List Lexeme). IsRefused spell before ls k) g.begins h)
 
 -- one kind of fault at one place
 pub one_kind : {A : Type 0} (spell : A → List Mark) (before rest : List Lexeme) (k j : ProgKind) → IsRefused spell before rest k → IsRefused spell before rest j → k ≡ j

@@ -7,6 +7,7 @@ use Rattle.cyp_prog.specs.Faults.{DuplicateName, ProgFault, TooLarge, UnknownNam
 use Rattle.cyp_prog.specs.Trees.{BlockTree, CallStmt, ErrorStmt, ExprTree, FreeStmt, FromCell, FromMalloc, IfStmt, LetStmt, MinusNum, NoStmts, Num, PlaceExpr, PlaceMinus, PlaceNum, PlaceTree, PlaceVar, ProcTree, ProgramTree, SourceTree, StmtTree, Stmts, StoreStmt, Var, VarMinus, VarPlus, VarTree, procs_of}
 use Rattle.cyp_prog.specs.TreePrograms.{proc_named}
 
+-- the variables of an expression
 abbrev pub expr_vars : ExprTree → List VarTree
 expr_vars (Var v) = v ∷ []
 expr_vars (Num n) = []
@@ -14,17 +15,18 @@ expr_vars (MinusNum n) = []
 expr_vars (VarPlus v n) = v ∷ []
 expr_vars (VarMinus v n) = v ∷ []
 
+-- the variables of a place
 abbrev pub place_vars : PlaceTree → List VarTree
 place_vars (PlaceVar v) = v ∷ []
 place_vars (PlaceNum n) = []
 place_vars (PlaceMinus n) = []
 place_vars (PlaceExpr e) = expr_vars e
 
--- a variable is used where v1 to vm are bound
+-- variables that are used where v1 to vm are bound, and no others
 abbrev pub use_faults : ℕ → List VarTree → List ProgFault
 use_faults m vs = flat_map (λ (v : VarTree). unless (nat_le 1 v.number && nat_le v.number m) UnknownName v.place) vs
 
--- this parameter or binder is the variable of that number
+-- a parameter or a binder that is to have this number
 abbrev pub binder_faults : ℕ → VarTree → List ProgFault
 binder_faults k v = unless (v.number == k) UnknownName v.place
 
@@ -32,12 +34,12 @@ binder_faults k v = unless (v.number == k) UnknownName v.place
 abbrev pub size_faults : (place n : ℕ) → List ProgFault
 size_faults p n = unless (nat_le 1 n && nat_le n 8) TooLarge p
 
--- a procedure that is named at this place is there and has this number of parameters
+-- the procedure that is named at this place is to be there, with so many parameters
 abbrev pub arity_faults : Option ProcTree → ℕ → ℕ → List ProgFault
 arity_faults None args p = record { kind = UnknownName; place = p } ∷ []
 arity_faults (Some q) args p = unless (length q.params == args) WrongArity p
 
--- a call, or the start of a run, is of the first procedure of its name, and with this number of arguments
+-- a call with so many arguments is of the first procedure of its name; so is the start of a run
 abbrev pub call_faults : List ProcTree → Ident → ℕ → List ProgFault
 call_faults qs i args = arity_faults (proc_named i.text qs) args i.place
 
@@ -70,6 +72,7 @@ abbrev pub param_faults : ℕ → List VarTree → List ProgFault
 param_faults k [] = []
 param_faults k (v ∷ vs) = binder_faults k v ++ param_faults (suc k) vs
 
+-- the faults of a procedure: of its parameters, and of its body where these are bound
 abbrev pub proc_faults : List ProcTree → ProcTree → List ProgFault
 proc_faults qs q = param_faults 1 q.params ++ block_faults qs (length q.params) q.body
 

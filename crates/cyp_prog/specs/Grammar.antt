@@ -28,6 +28,7 @@ variable v = At (Variable v.number) v.place
 abbrev pub number : ℕ → Mark
 number n = Any (Number n)
 
+-- a variable, a number, or a variable and a number with `+` or `-` between them
 abbrev pub expr_spelling : ExprTree → List Mark
 expr_spelling (Var v) = variable v ∷ []
 expr_spelling (Num n) = number n ∷ []
@@ -35,12 +36,14 @@ expr_spelling (MinusNum n) = sign signs.Minus ∷ number n ∷ []
 expr_spelling (VarPlus v n) = variable v ∷ sign signs.Plus ∷ number n ∷ []
 expr_spelling (VarMinus v n) = variable v ∷ sign signs.Minus ∷ number n ∷ []
 
+-- a variable or a number, and any other expression in parentheses
 abbrev pub place_spelling : PlaceTree → List Mark
 place_spelling (PlaceVar v) = variable v ∷ []
 place_spelling (PlaceNum n) = number n ∷ []
 place_spelling (PlaceMinus n) = sign signs.Minus ∷ number n ∷ []
 place_spelling (PlaceExpr e) = sign signs.LeftParen ∷ (expr_spelling e ++ sign signs.RightParen ∷ [])
 
+-- `*` and a place, or `malloc` and a size
 abbrev pub source_spelling : SourceTree → List Mark
 source_spelling (FromCell p) = sign signs.Star ∷ place_spelling p
 source_spelling (FromMalloc p n) = word words.Malloc ∷ sign signs.LeftParen ∷ At (Number n) p ∷ sign signs.RightParen ∷ []
@@ -52,6 +55,7 @@ test_sign Unequal = signs.Unequal
 test_sign AtMost = signs.AtMost
 test_sign Below = signs.Less
 
+-- the arguments with a comma between each two
 abbrev pub args_spelling : List ExprTree → List Mark
 args_spelling es = separated (Symbol signs.Comma) expr_spelling es
 
@@ -75,16 +79,20 @@ abbrev mutual
   stmts_spelling NoStmts = []
   stmts_spelling (Stmts s b) = stmt_spelling s ++ stmts_spelling b
 
+-- a parameter is a variable
 abbrev pub param_spelling : VarTree → List Mark
 param_spelling v = variable v ∷ []
 
+-- the parameters with a comma between each two
 abbrev pub params_spelling : List VarTree → List Mark
 params_spelling vs = separated (Symbol signs.Comma) param_spelling vs
 
+-- `void`, the name, the parameters in parentheses and the body in braces
 abbrev pub proc_spelling : ProcTree → List Mark
 proc_spelling p =
     word words.Void ∷ ident p.name ∷ sign signs.LeftParen
     ∷ (params_spelling p.params ++ (sign signs.RightParen ∷ sign signs.LeftBrace ∷ (stmts_spelling p.body ++ sign signs.RightBrace ∷ [])))
 
+-- the procedures one after another
 abbrev pub program_spelling : ProgramTree → List Mark
 program_spelling p = all_spelling proc_spelling (procs_of p)

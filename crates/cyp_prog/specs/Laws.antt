@@ -12,6 +12,10 @@ use Rattle.cyp_prog.specs.Trees.{ProgramTree}
 abbrev pub OneTree : Type 0
 OneTree = (s t : ProgramTree) (ls : List Lexeme) → Match (program_spelling s) ls → Match (program_spelling t) ls → s ≡ t
 
+-- each text has a reading: it spells a program, or it is refused for a fault
+abbrev pub SomeReading : Type 0
+SomeReading = (bytes : List ℕ) → (result : Result (List Procedure) ProgFault) × IsProgramReading bytes result
+
 -- a text has one reading at most: one program, or one fault
 abbrev pub OneReading : Type 0
 OneReading = (bytes : List ℕ) (r s : Result (List Procedure) ProgFault) → IsProgramReading bytes r → IsProgramReading bytes s → r ≡ s

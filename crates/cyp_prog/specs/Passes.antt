@@ -1,5 +1,5 @@
 -- The three passes over a text: its bytes, its grammar, and the rest. The first pass with a fault decides.
-use Rattle.std.specs.Prelude.{◌++◌, ◌≡◌, ◌⊎◌, Err, List, length, None, Ok, Result, Some, [], ◌∷◌, ℕ}
+use Rattle.std.specs.Prelude.{[], ◌++◌, ◌≡◌, ◌⊎◌, Err, List, None, Ok, Result, Some, length, ◌∷◌, ℕ}
 use Rattle.cyp_grammar.specs.Beginnings.{Begins}
 use Rattle.cyp_grammar.specs.Lexemes.{Lexeme}
 use Rattle.cyp_grammar.specs.Spelling.{Mark, Match}
@@ -54,7 +54,7 @@ pub record IsTokenFault (bytes : List ℕ) (f : ProgFault) : Type 0 where
   pub kind : f.kind ≡ token_kind fault.kind
   pub place : f.place ≡ fault.place
 
--- behind a beginning of the grammar the first lexeme is not allowed, or is an `if` too deep, or the end is not allowed
+-- behind this beginning the next lexeme is allowed by no text of the grammar, or it is an `if` that is nested too deep; where nothing is left, no text ends there
 abbrev pub IsRefused : {A : Type 0} → (A → List Mark) → List Lexeme → List Lexeme → ProgKind → Type 0
 IsRefused spell before (l ∷ after) Expected = Begins spell (before ++ l ∷ []) → ⊥
 IsRefused spell before (l ∷ after) TooLarge = Begins spell (before ++ l ∷ []) × IsTooDeep before l

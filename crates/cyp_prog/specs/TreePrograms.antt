@@ -18,6 +18,7 @@ proc_place name qs = prefix_len (is_named_otherwise name) qs
 abbrev pub proc_named : List ℕ → List ProcTree → Option ProcTree
 proc_named name qs = slice_get qs (proc_place name qs)
 
+-- the expression that a tree says
 abbrev pub expr_of : ExprTree → Expr
 expr_of (Var v) = record { var = Some v.number; offset = pos 0 }
 expr_of (Num n) = record { var = None; offset = pos n }
@@ -25,6 +26,7 @@ expr_of (MinusNum n) = record { var = None; offset = neg_ℤ (pos n) }
 expr_of (VarPlus v n) = record { var = Some v.number; offset = pos n }
 expr_of (VarMinus v n) = record { var = Some v.number; offset = neg_ℤ (pos n) }
 
+-- the expression that a place says
 abbrev pub place_of : PlaceTree → Expr
 place_of (PlaceVar v) = expr_of (Var v)
 place_of (PlaceNum n) = expr_of (Num n)
@@ -50,8 +52,10 @@ abbrev mutual
   block_of qs NoStmts = End
   block_of qs (Stmts s b) = Then (stmt_of qs s) (block_of qs b)
 
+-- the procedure that a tree says, in a program of these procedures
 abbrev pub proc_of : List ProcTree → ProcTree → Procedure
 proc_of qs q = record { name = q.name.text; params = length q.params; body = block_of qs q.body }
 
+-- the program that a tree says
 abbrev pub program_of_tree : ProgramTree → List Procedure
 program_of_tree p = map (proc_of (procs_of p)) (procs_of p)

@@ -1,13 +1,14 @@
-ghost use Rattle.cyp_prog.specs.Laws.{OneTree, OneReading, ReadIsNotRefused};
+ghost use Rattle.cyp_prog.specs.Laws.{OneTree, SomeReading, OneReading, ReadIsNotRefused};
 
 /// Law: lexemes spell one program's tree at most.
 pub fn lexemes_spell_one_tree()
     ensures { OneTree }
 {}
 
-/// Law: a text has one reading at most, a program or a fault.
+/// Law: a text has one reading and no other, a program or a fault.
 pub fn a_text_has_one_reading()
-    ensures { OneReading }
+    ensures some { SomeReading }
+    ensures alone { OneReading }
 {}
 
 /// Law: no text that spells a program is refused.

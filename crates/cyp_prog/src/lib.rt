@@ -1,4 +1,4 @@
-//! Programs on heap cells, and their text: definitions.
+//! Programs on heap cells, and their texts: definitions and laws.
 #![tactic(auto)]
 
 mod laws;

@@ -4,7 +4,7 @@ use Rattle.cyp_lex.specs.declared.token.Sign.TheVariants.{Comma, LeftBracket, Le
 use Rattle.cyp_lex.specs.declared.token.Word.TheVariants.{Emp}
 use Rattle.cyp_grammar.specs.Lexemes.{Name, Reserved, Said, Symbol}
 use Rattle.cyp_grammar.specs.Spelling.{Ident, Mark, ident}
-use Rattle.cyp_grammar.specs.Readers.{AName, NoName, is_name, is_sign, is_word, one_of}
+use Rattle.cyp_grammar.proofs.Readers.{AName, NoName, is_name, is_sign, is_word, one_of}
 use Rattle.cyp_grammar.proofs.Readings.{Apart, Reads, Within, apart_none, none, nowhere, within_self}
 use Rattle.cyp_grammar.proofs.Singles.{one}
 use Rattle.cyp_grammar.proofs.Sequences.{both_reads, spell_both}
@@ -17,7 +17,7 @@ use Rattle.cyp_grammar.proofs.Enclosures.{enclosed_reads, enclosed_spelling, nam
 use Rattle.cyp_grammar.proofs.Behinds.{NameLeads, leads_either, leads_listed, leads_mapped, leads_name, leads_no_name}
 use Rattle.cyp_spec.specs.Trees.{ArgTree, BlockOf, ChunkTree, InstanceOf, IntTree, NamedCell, TermCell}
 use Rattle.cyp_spec.specs.Grammar.{arg_spelling, chunk_spelling, heap_spelling, int_spelling}
-use Rattle.cyp_spec.specs.ChunkReaders.{AnyChunk, BlockChunk, ChunkTail, TermChunk, args_at, begins_arg, begins_chunk, begins_heap, begins_shape, block_chunk, chunk_at, chunk_tail, chunk_tree, chunks_at, heap_at, heap_tree, is_chunk_tail, shape_chunk, term_chunk}
+use Rattle.cyp_spec.proofs.ChunkReaders.{AnyChunk, BlockChunk, ChunkTail, TermChunk, args_at, begins_arg, begins_chunk, begins_heap, begins_shape, block_chunk, chunk_at, chunk_tail, chunk_tree, chunks_at, heap_at, heap_tree, is_chunk_tail, shape_chunk, term_chunk}
 use Rattle.cyp_spec.proofs.IntLaws.{int_ends, int_reads}
 use Rattle.cyp_spec.proofs.LitLaws.{lit_ends}
 use Rattle.cyp_spec.proofs.ArgLaws.{arg_reads, name_arg_begins}

@@ -2,18 +2,18 @@
 use Rattle.std.proofs.Common.{Err, List, Ok, Result, [], inl, inr, refl, ◌∷◌, ◌≡◌, ◌⊎◌}
 use Rattle.cyp_grammar.specs.Beginnings.{Refused}
 use Rattle.cyp_grammar.specs.Lexemes.{Lexeme}
-use Rattle.cyp_grammar.specs.Readers.{AName, NoName, Stop, Want}
-use Rattle.cyp_grammar.specs.Stops.{IsReading, IsStop, whole_of}
+use Rattle.cyp_grammar.proofs.Readers.{AName, NoName, Stop, Want}
+use Rattle.cyp_grammar.proofs.Stops.{IsReading, IsStop, whole_of}
 use Rattle.cyp_grammar.proofs.Wholes.{spelled_once, whole_reads}
 use Rattle.cyp_spec.specs.Grammar.{text_spelling}
 use Rattle.cyp_spec.specs.ReadingLaws.{OneTree}
-use Rattle.cyp_spec.specs.TextReaders.{text_at}
+use Rattle.cyp_spec.proofs.TextReaders.{text_at}
 use Rattle.cyp_spec.specs.Trees.{TextTree}
 use Rattle.cyp_spec.specs.GrammarFaults.{AllowsName, name_at}
 use Rattle.cyp_spec.proofs.NamesAllowed.{AllowsNone, IsNoMore, Parsed, Stops}
 use Rattle.cyp_spec.proofs.TextLaws.{text_reads}
 
-reading : (ls : List Lexeme) → IsReading text_spelling ls (whole_of text_at ls)
+pub reading : (ls : List Lexeme) → IsReading text_spelling ls (whole_of text_at ls)
 reading ls = whole_reads text_reads ls
 
 pub one_tree : OneTree

@@ -125,3 +125,20 @@ two_limits = codes "predicate p(loc x) { | x == 0 => { [x, 0] } } void f() { emp
 least_limit : IsReading two_limits (refused TooLarge 39)
 unfolding lexed piece_at sign_at stands name_kind
 least_limit = inl (tree_of two_limits, assumption refl, refl)
+
+-- ---- which fault counts
+
+-- the first pass with a fault decides, wherever the faults of later passes stand
+abbrev byte_behind_name : List ℕ
+byte_behind_name = codes "void f(loc x, loc x) { x :-> $ } { emp }"
+
+earlier_pass : IsReading byte_behind_name (refused BadByte 29)
+unfolding lexed piece_at sign_at stands name_kind
+earlier_pass = refl
+
+abbrev name_behind_size : List ℕ
+name_behind_size = codes "void f(loc x) { [x, 9] } { p(x) }"
+
+names_before_limits : IsReading name_behind_size (refused UnknownPredicate 27)
+unfolding lexed piece_at sign_at stands name_kind
+names_before_limits = inl (tree_of name_behind_size, assumption refl, refl)

@@ -3,6 +3,7 @@ use Rattle.std.proofs.Common.{List, None, Option, Some, [], ap, arith, false, fi
 use Rattle.std.specs.Prelude.{Bool, cond, slice_get, ◌==◌}
 use Rattle.std.specs.List.{list_all}
 use Rattle.std.specs.Str.{bytes_eq}
+use Rattle.std.proofs.lemmas.List.{length-map}
 use Rattle.std.proofs.lemmas.Bool.{and_from, eqb-true}
 use Rattle.cyp_grammar.specs.Spelling.{Ident}
 use Rattle.cyp_heap.specs.Chunks.{insts}
@@ -76,14 +77,10 @@ found name all (p ∷ ps) q e = by_test (bytes_eq p.name.text name) e (found nam
 sorts_not_card : (q : PredTree) (s : Sort) → Among s (map param_sort q.params) → s ≢ Card
 sorts_not_card q s m = let f = map_from param_sort s q.params m in λ c. param_plain f.0 (sym f.2 ∙ c)
 
-length-mapped : {A B : Type 0} (f : A → B) (xs : List A) → length (map f xs) ≡ length xs
-length-mapped f [] = refl
-length-mapped f (x ∷ xs) = ap suc (length-mapped f xs)
-
 inst_of : List PredTree → Scope → Ident → List ArgTree → InstOf
 inst_of qs sc i xs = record { pred = pred_place i.text qs; args = read_args sc (arg_sorts qs i xs) xs; card = None; tag = 0 }
 
-fits_named : (qs : List PredTree) (sc : Scope) (i : Ident) (xs : List ArgTree) (q : Option PredTree) → pred_named i.text qs ≡ q → instance_fault i xs q ≡ []
+pub fits_named : (qs : List PredTree) (sc : Scope) (i : Ident) (xs : List ArgTree) (q : Option PredTree) → pred_named i.text qs ≡ q → instance_fault i xs q ≡ []
     → fits_pred (record { pred = pred_place i.text qs; args = read_args sc (sorts_of (length xs) q) xs; card = None; tag = 0 }) (slice_get (map (read_pred qs) qs) (pred_place i.text qs)) ≡ true
 fits_named qs sc i xs None e n = absurd cc
 fits_named qs sc i xs (Some q) e n = rw (found i.text qs qs q e) (by_length (length q.params == length xs) refl n)
@@ -92,7 +89,7 @@ fits_named qs sc i xs (Some q) e n = rw (found i.text qs qs q e) (by_length (len
     ss = map param_sort q.params
 
     by_length : (t : Bool) → (length q.params == length xs) ≡ t → cond t (arg_faults ss xs) (fault_at WrongArity i.place) ≡ [] → sorts_fit (read_args sc (cond t ss []) xs) ss ≡ true
-    by_length true l k = fit_sorts ss (sorts_not_card q) sc xs (length-mapped param_sort q.params ∙ eqb-true (length q.params) (length xs) l) k
+    by_length true l k = fit_sorts ss (sorts_not_card q) sc xs (length-map q.params param_sort ∙ eqb-true (length q.params) (length xs) l) k
     by_length false l k = absurd cc
 
 -- chunks without faults

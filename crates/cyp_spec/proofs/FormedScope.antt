@@ -22,7 +22,7 @@ use Rattle.cyp_spec.proofs.Scopes.{Grows, Has, grow, has_grown, has_later}
 
 -- ---- parameters
 
-test_false : {A : Type 0} (t : Bool) (x : A) (xs : List A) → cond t (x ∷ xs) [] ≡ [] → t ≡ false
+pub test_false : {A : Type 0} (t : Bool) (x : A) (xs : List A) → cond t (x ∷ xs) [] ≡ [] → t ≡ false
 test_false false x xs e = refl
 test_false true x xs e = absurd cc
 
@@ -63,7 +63,7 @@ no_set p e = by_sort p.sort refl
 
 -- ---- sorts
 
-sort_has : (us ws : Scope) (a : List ℕ) → Has us a → sort_in (us ++ ws) a ≡ sort_in us a
+pub sort_has : (us ws : Scope) (a : List ℕ) → Has us a → sort_in (us ++ ws) a ≡ sort_in us a
 sort_has [] ws a h = absurd h.1
 sort_has (u ∷ us) ws a h = by_test (bytes_eq u.name.text a) refl (λ e. sort_has us ws a (has_later u us a e h))
   where

@@ -4,7 +4,7 @@ use Rattle.cyp_lex.specs.declared.token.Sign.TheVariants.{AndAnd, Minus, Plus, S
 use Rattle.cyp_lex.specs.declared.token.Word.TheVariants.{True}
 use Rattle.cyp_grammar.specs.Lexemes.{Name, Reserved, Said, Symbol}
 use Rattle.cyp_grammar.specs.Spelling.{Any, Mark}
-use Rattle.cyp_grammar.specs.Readers.{NoName, is_sign, is_word, one_of, plainly, single}
+use Rattle.cyp_grammar.proofs.Readers.{NoName, is_sign, is_word, one_of, plainly, single}
 use Rattle.cyp_grammar.proofs.Readings.{Apart, Reads, apart_none, none, nowhere, within_self}
 use Rattle.cyp_grammar.proofs.Singles.{one}
 use Rattle.cyp_grammar.proofs.Sequences.{both_reads, spell_both}
@@ -16,8 +16,8 @@ use Rattle.cyp_grammar.proofs.Repeats.{repeated_spelling, repeating_reads}
 use Rattle.cyp_grammar.proofs.Behinds.{NameLeads, leads_both, leads_either, leads_mapped, leads_no_name}
 use Rattle.cyp_spec.specs.Trees.{Ampersands, Conjunction, ItemTree, LitItem, LitTree, Slashes, TrueItem}
 use Rattle.cyp_spec.specs.Grammar.{conjunction_sign, item_spelling, later_item, lit_spelling}
-use Rattle.cyp_spec.specs.LitReaders.{begins_lit}
-use Rattle.cyp_spec.specs.BodyReaders.{SomeItems, begins_item, conjunction_of, is_conjunction, item_at, item_tree, items_at, later_item_at}
+use Rattle.cyp_spec.proofs.LitReaders.{begins_lit}
+use Rattle.cyp_spec.proofs.BodyReaders.{SomeItems, begins_item, conjunction_of, is_conjunction, item_at, item_tree, items_at, later_item_at}
 use Rattle.cyp_spec.proofs.LitLaws.{is_lit_tail, lit_ends}
 use Rattle.cyp_spec.proofs.NotLaws.{lit_leads, lit_reads, name_lit}
 

@@ -4,7 +4,7 @@ use Rattle.cyp_lex.specs.declared.token.Sign.TheVariants.{LeftParen, RightParen}
 use Rattle.cyp_lex.specs.declared.token.Word.TheVariants.{Not}
 use Rattle.cyp_grammar.specs.Lexemes.{Lexeme, Name, Reserved, Symbol}
 use Rattle.cyp_grammar.specs.Spelling.{At, Mark, Then}
-use Rattle.cyp_grammar.specs.Readers.{Read, both, is_sign, is_word, sign_token, word_place}
+use Rattle.cyp_grammar.proofs.Readers.{Read, both, is_sign, is_word, sign_token, word_place}
 use Rattle.cyp_grammar.proofs.Readings.{Apart, Reads, apart_none, none, nowhere, within_self}
 use Rattle.cyp_grammar.proofs.Singles.{one}
 use Rattle.cyp_grammar.proofs.Sequences.{both_reads, spell_both, then_reads}
@@ -15,7 +15,7 @@ use Rattle.cyp_grammar.proofs.Firsts.{NameBegins, first_reads, name_mapped, name
 use Rattle.cyp_grammar.proofs.Behinds.{NameLeads, leads_either, leads_mapped}
 use Rattle.cyp_spec.specs.Trees.{Comparing, Inside, IntTree, LitTree, Negation, SameSets, SetTree, SubSets}
 use Rattle.cyp_spec.specs.Grammar.{lit_spelling}
-use Rattle.cyp_spec.specs.LitReaders.{Base, Negated, Related, begins_base, begins_lit, lit_at, lit_in, lit_tree}
+use Rattle.cyp_spec.proofs.LitReaders.{Base, Negated, Related, begins_base, begins_lit, lit_at, lit_in, lit_tree}
 use Rattle.cyp_spec.proofs.LitLaws.{base_behind, base_reads, base_spelling, is_lit_tail, lit_ends, name_base}
 
 right_ends : Apart (is_sign RightParen) lit_ends

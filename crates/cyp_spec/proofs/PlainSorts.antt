@@ -90,6 +90,9 @@ sorts_plain n (Some q) s m = by_length (length q.params == n) m
     by_length false k = absurd k
     by_length true k = let f = map_from param_sort s q.params k in λ c. param_plain f.0 (sym f.2 ∙ c)
 
+pub arg_sorts_plain : (qs : List PredTree) (i : Ident) (xs : List ArgTree) (s : Sort) → Among s (arg_sorts qs i xs) → s ≢ Card
+arg_sorts_plain qs i xs = sorts_plain (length xs) (pred_named i.text qs)
+
 arg_plain : (s : Option Sort) → ((r : Sort) → s ≡ Some r → r ≢ Card) → (x : ArgTree) → ArePlain (arg_uses kept_parts s x)
 arg_plain None n (TermArg (Named i)) = none_plain
 arg_plain (Some s) n (TermArg (Named i)) = plain_one s i (n s refl)
@@ -110,7 +113,7 @@ chunk_plain : (qs : List PredTree) (c : ChunkTree) → ArePlain (chunk_uses kept
 chunk_plain qs (NamedCell i t) = plain_both (use_of Int i ∷ []) (int_uses t) (plain_one Int i not_card_int) (int_plain t)
 chunk_plain qs (TermCell a t) = plain_both _ _ (int_plain a) (int_plain t)
 chunk_plain qs (BlockOf a p n) = int_plain a
-chunk_plain qs (InstanceOf i xs) = args_plain (arg_sorts qs i xs) (sorts_plain (length xs) (pred_named i.text qs)) xs
+chunk_plain qs (InstanceOf i xs) = args_plain (arg_sorts qs i xs) (arg_sorts_plain qs i xs) xs
 
 pub body_plain : (qs : List PredTree) (b : BodyTree) → ArePlain (kept_body qs b)
 body_plain qs b = plain_both _ _ (plain_flat (kept_lit false) (body_lits b) (lit_plain false)) (plain_flat (chunk_uses kept_parts qs) (in_kinds b.chunks) (chunk_plain qs))

@@ -5,7 +5,7 @@ use Rattle.cyp_lex.specs.declared.token.Word.TheVariants.{Int, Loc, Predicate, S
 use Rattle.cyp_lex.specs.declared.token.Word.TheVariants.{Void}
 use Rattle.cyp_grammar.specs.Lexemes.{Reserved, Said, Symbol}
 use Rattle.cyp_grammar.specs.Spelling.{At, Mark, ident}
-use Rattle.cyp_grammar.specs.Readers.{NoName, is_sign, is_word, one_of, placed, single}
+use Rattle.cyp_grammar.proofs.Readers.{NoName, is_sign, is_word, one_of, placed, single}
 use Rattle.cyp_grammar.proofs.Readings.{Apart, Reads, apart_none, none, nowhere, within_self}
 use Rattle.cyp_grammar.proofs.Singles.{one}
 use Rattle.cyp_grammar.proofs.Sequences.{both_reads, spell_both}
@@ -15,7 +15,7 @@ use Rattle.cyp_grammar.proofs.Enclosures.{enclosed_reads, enclosed_spelling}
 use Rattle.cyp_grammar.proofs.Repeats.{repeated_spelling, repeating_reads}
 use Rattle.cyp_spec.specs.Trees.{ClauseTree, IntSort, LocSort, ParamTree, PredTree, SetSort, SortTree, TextTree}
 use Rattle.cyp_spec.specs.Grammar.{clause_spelling, in_braces, lit_spelling, param_spelling, params_spelling, pred_spelling, sort_word, text_spelling}
-use Rattle.cyp_spec.specs.TextReaders.{InParens, SomeClause, SomeClauses, SomeParam, SomePred, SomeProcedure, clause_at, clause_tree, clauses_at, is_sort, param_at, param_tree, params_at, params_tree, pred_at, pred_tree, procedure_at, sort_of, text_at, text_tree}
+use Rattle.cyp_spec.proofs.TextReaders.{InParens, SomeClause, SomeClauses, SomeParam, SomePred, SomeProcedure, clause_at, clause_tree, clauses_at, is_sort, param_at, param_tree, params_at, params_tree, pred_at, pred_tree, procedure_at, sort_of, text_at, text_tree}
 use Rattle.cyp_spec.proofs.LitLaws.{lit_ends}
 use Rattle.cyp_spec.proofs.NotLaws.{lit_reads}
 use Rattle.cyp_spec.proofs.BodyLaws.{braced_reads}

@@ -28,10 +28,12 @@ abbrev pub is_instance : ChunkTree → Bool
 is_instance (InstanceOf i xs) = true
 is_instance _ = false
 
+-- the chunk is a block
 abbrev pub is_block : ChunkTree → Bool
 is_block (BlockOf a p n) = true
 is_block _ = false
 
+-- the chunk is a cell
 abbrev pub is_cell : ChunkTree → Bool
 is_cell (NamedCell i t) = true
 is_cell (TermCell a t) = true

@@ -26,6 +26,7 @@ use Rattle.cyp_grammar.specs.Lexemes.{Number, Reserved, Symbol}
 use Rattle.cyp_grammar.specs.Spelling.{Any, At, Mark, all_spelling, ident, list_spelling, separated, sign, word}
 use Rattle.cyp_spec.specs.Trees.{Ampersands, ArgTree, BlockOf, BodyTree, Braces, BracesArg, ChunkTree, ClauseTree, Comparing, Comparison, Conjunction, Inside, InstanceOf, IntSort, IntTree, IsAbove, IsAtLeast, IsAtMost, IsBelow, IsEqual, IsUnequal, ItemTree, Items, LitItem, LitTree, LocSort, MinusNum, NameMinus, NamePlus, Named, NamedCell, Negation, NoItems, Num, NumPlus, ParamTree, PartName, PartTree, PredTree, PureTree, SameSets, SetSort, SetTree, Slashes, SortTree, SubSets, TermArg, TermCell, TextTree, TrueItem, UnionArg}
 
+-- a number with or without a minus, a name, or the sum or difference of a name and a number
 abbrev pub int_spelling : IntTree → List Mark
 int_spelling (Num p n) = At (Number n) p ∷ []
 int_spelling (MinusNum p n) = At (Symbol Minus) p ∷ Any (Number n) ∷ []
@@ -38,6 +39,7 @@ int_spelling (NumPlus p n i) = At (Number n) p ∷ sign Plus ∷ ident i ∷ []
 abbrev pub braces_spelling : ℕ → List IntTree → List Mark
 braces_spelling p ts = At (Symbol LeftBrace) p ∷ (separated (Symbol Comma) int_spelling ts ++ sign RightBrace ∷ [])
 
+-- a name, or terms in braces
 abbrev pub part_spelling : PartTree → List Mark
 part_spelling (PartName i) = ident i ∷ []
 part_spelling (Braces p ts) = braces_spelling p ts
@@ -46,9 +48,11 @@ part_spelling (Braces p ts) = braces_spelling p ts
 abbrev pub parts_spelling : PartTree → List PartTree → List Mark
 parts_spelling u us = list_spelling (Symbol TwoPluses) part_spelling u us
 
+-- the parts of a union with `++` between each two
 abbrev pub set_spelling : SetTree → List Mark
 set_spelling u = parts_spelling u.first u.others
 
+-- the symbol of a comparison
 abbrev pub comparison_sign : Comparison → Sign
 comparison_sign IsEqual = Equal
 comparison_sign IsUnequal = Unequal
@@ -57,6 +61,7 @@ comparison_sign IsBelow = Less
 comparison_sign IsAtLeast = AtLeast
 comparison_sign IsAbove = Greater
 
+-- two sides with a comparison, or `in`, `=i` or `<=i`, between them; or `not` and a literal in parentheses
 abbrev pub lit_spelling : LitTree → List Mark
 lit_spelling (Comparing a c b) = int_spelling a ++ (sign (comparison_sign c) ∷ int_spelling b)
 lit_spelling (SameSets a b) = set_spelling a ++ (sign Same ∷ set_spelling b)
@@ -64,10 +69,12 @@ lit_spelling (SubSets a b) = set_spelling a ++ (sign Subset ∷ set_spelling b)
 lit_spelling (Inside a b) = int_spelling a ++ (word In ∷ set_spelling b)
 lit_spelling (Negation p l) = At (Reserved Not) p ∷ sign LeftParen ∷ (lit_spelling l ++ sign RightParen ∷ [])
 
+-- `true`, or a literal
 abbrev pub item_spelling : ItemTree → List Mark
 item_spelling TrueItem = word True ∷ []
 item_spelling (LitItem l) = lit_spelling l
 
+-- `/\` or `&&`
 abbrev pub conjunction_sign : Conjunction → Sign
 conjunction_sign Slashes = SlashAnd
 conjunction_sign Ampersands = AndAnd
@@ -81,11 +88,13 @@ abbrev pub pure_spelling : PureTree → List Mark
 pure_spelling NoItems = []
 pure_spelling (Items i is) = item_spelling i ++ (all_spelling later_item is ++ sign Semicolon ∷ [])
 
+-- a term or a union
 abbrev pub arg_spelling : ArgTree → List Mark
 arg_spelling (TermArg t) = int_spelling t
 arg_spelling (BracesArg p ts us) = parts_spelling (Braces p ts) us
 arg_spelling (UnionArg i u us) = ident i ∷ sign TwoPluses ∷ parts_spelling u us
 
+-- a cell, a block in brackets, or an instance with its arguments in parentheses
 abbrev pub chunk_spelling : ChunkTree → List Mark
 chunk_spelling (NamedCell i t) = ident i ∷ sign PointsTo ∷ int_spelling t
 chunk_spelling (TermCell a t) = sign LeftParen ∷ (int_spelling a ++ (sign RightParen ∷ sign PointsTo ∷ int_spelling t))
@@ -97,31 +106,39 @@ abbrev pub heap_spelling : List ChunkTree → List Mark
 heap_spelling [] = word Emp ∷ []
 heap_spelling (c ∷ cs) = list_spelling (Symbol TwoStars) chunk_spelling c cs
 
+-- the pure part, if there is one, and the heap
 abbrev pub body_spelling : BodyTree → List Mark
 body_spelling b = pure_spelling b.pure ++ heap_spelling b.chunks
 
+-- a body between `{` and `}`
 abbrev pub in_braces : BodyTree → List Mark
 in_braces b = sign LeftBrace ∷ (body_spelling b ++ sign RightBrace ∷ [])
 
+-- the word of a sort
 abbrev pub sort_word : SortTree → Word
 sort_word LocSort = Loc
 sort_word IntSort = Int
 sort_word SetSort = Set
 
+-- the word of its sort, and the name
 abbrev pub param_spelling : ParamTree → List Mark
 param_spelling p = At (Reserved (sort_word p.sort)) p.place ∷ ident p.name ∷ []
 
+-- the parameters in parentheses, with a comma between each two
 abbrev pub params_spelling : List ParamTree → List Mark
 params_spelling ps = sign LeftParen ∷ (separated (Symbol Comma) param_spelling ps ++ sign RightParen ∷ [])
 
+-- a bar, the guard, `=>` and the body in braces
 abbrev pub clause_spelling : ClauseTree → List Mark
 clause_spelling c = At (Symbol Bar) c.place ∷ (lit_spelling c.guard ++ (sign Implies ∷ in_braces c.body))
 
+-- `predicate`, the name, the parameters, and the clauses in braces
 abbrev pub pred_spelling : PredTree → List Mark
 pred_spelling q =
     word Predicate ∷ ident q.name
     ∷ (params_spelling q.params ++ (sign LeftBrace ∷ (clause_spelling q.first ++ (all_spelling clause_spelling q.others ++ sign RightBrace ∷ []))))
 
+-- the predicates, and then `void`, the name, the parameters and the two bodies
 abbrev pub text_spelling : TextTree → List Mark
 text_spelling t =
     all_spelling pred_spelling t.preds ++ (word Void ∷ ident t.name ∷ (params_spelling t.params ++ (in_braces t.pre ++ in_braces t.post)))

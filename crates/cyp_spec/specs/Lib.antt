@@ -1,10 +1,7 @@
 pub mod Bodies
-pub mod BodyReaders
-pub mod ChunkReaders
 pub mod Grammar
 pub mod GrammarFaults
 pub mod LimitFaults
-pub mod LitReaders
 pub mod NameFaults
 pub mod PrintedTrees
 pub mod Printing
@@ -12,7 +9,5 @@ pub mod ReadTerms
 pub mod Reading
 pub mod ReadingLaws
 pub mod Specifications
-pub mod TermReaders
-pub mod TextReaders
 pub mod Trees
 pub mod Uses

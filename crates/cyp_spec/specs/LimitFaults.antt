@@ -2,14 +2,12 @@
 use Rattle.std.specs.Prelude.{[], Bool, List, None, Option, Some, cond, flat_map, is_some, length, nat_le, not, slice_get, ◌&&◌, ◌++◌, ◌∷◌}
 use Rattle.std.specs.List.{list_all, list_any}
 use Rattle.cyp_goal.specs.Normal.{normal}
-use Rattle.cyp_heap.specs.Limits.{chunk_elements, is_goal_within}
+use Rattle.cyp_heap.specs.Limits.{is_goal_within}
+use Rattle.cyp_heap.specs.PredsFormed.{is_clause_within, overlap}
 use Rattle.cyp_heap.specs.declared.goal.Node.{Node}
-use Rattle.cyp_heap.specs.declared.pred.Clause.{Clause}
 use Rattle.cyp_heap.specs.declared.pred.Pred.{Pred}
 use Rattle.cyp_lex.specs.declared.fault.Fault.{Fault}
 use Rattle.cyp_lex.specs.declared.fault.FaultKind.TheVariants.{GuardsOverlap, TooLarge, Unproductive}
-use Rattle.cyp_term.specs.Entailment.{satisfiable}
-use Rattle.cyp_term.specs.Terms.{lit_elements, term_eq, without_repeats}
 use Rattle.cyp_term.specs.declared.lit.Lit.{Lit}
 use Rattle.cyp_spec.specs.Bodies.{is_cell, is_instance}
 use Rattle.cyp_spec.specs.NameFaults.{clauses, fault_at, lit_place}
@@ -24,7 +22,7 @@ guard_of qs ps c = (read_clause qs ps c).guard
 
 -- the guard and one of these can both hold
 abbrev pub overlaps : List Lit → Lit → Bool
-overlaps seen g = list_any (λ (h : Lit). satisfiable (h ∷ g ∷ [])) seen
+overlaps seen g = list_any (λ (h : Lit). overlap h g) seen
 
 -- each guard that can hold beside an earlier one, which is in `seen`
 abbrev pub overlap_faults : (ClauseTree → Lit) → List Lit → List ClauseTree → List Fault
@@ -47,14 +45,7 @@ size_fault _ = []
 abbrev pub size_faults : BodyTree → List Fault
 size_faults b = flat_map size_fault b.chunks
 
--- a clause has at most 8 chunks, 8 literals beside its guard, 64 integer variables, 32 set variables and 32 element terms
-abbrev pub is_clause_within : Clause → Bool
-is_clause_within c =
-    nat_le (length c.heap.chunks) 8 && nat_le (length c.lits) 8
-    && nat_le c.ints 64 && nat_le c.sets 32
-    && nat_le (length (without_repeats term_eq (flat_map lit_elements (c.guard ∷ c.lits) ++ flat_map chunk_elements c.heap.chunks))) 32
-
--- a predicate has at most 8 parameters and 8 clauses
+-- a predicate has at most 8 parameters and 8 clauses, each within the limits of a clause
 abbrev pub is_pred_within : Pred → Bool
 is_pred_within q = nat_le (length q.params) 8 && nat_le (length q.clauses) 8 && list_all is_clause_within q.clauses
 

@@ -1,6 +1,7 @@
 -- Laws of the reading of texts.
 use Rattle.std.specs.Prelude.{Err, IsTrue, List, Ok, Result, ℕ, ◌≡◌}
 use Rattle.cyp_heap.specs.Formed.{IsFormed}
+use Rattle.cyp_heap.specs.PredsFormed.{IsFormedPreds}
 use Rattle.cyp_lex.specs.declared.fault.Fault.{Fault}
 use Rattle.cyp_spec.specs.LimitFaults.{is_root_within}
 use Rattle.cyp_grammar.specs.Lexemes.{Lexeme}
@@ -29,3 +30,7 @@ SomeReading = (bytes : List ℕ) → (r : Result Specification Fault) × IsReadi
 -- a specification that is read has a formed goal, which is within the limits as it is written and in its normal form
 abbrev pub ReadIsFormed : Type 0
 ReadIsFormed = (bytes : List ℕ) (s : Specification) → IsReading bytes (Ok s) → IsFormed s.preds s.goal × IsTrue (is_root_within s)
+
+-- the predicates of a specification that is read are formed
+abbrev pub ReadPredsAreFormed : Type 0
+ReadPredsAreFormed = (bytes : List ℕ) (s : Specification) → IsReading bytes (Ok s) → IsFormedPreds s.preds

@@ -1,4 +1,4 @@
-ghost use Rattle.cyp_spec.specs.ReadingLaws.{OneReading, OneTree, ReadIsFormed, ReadNotRefused, SomeReading};
+ghost use Rattle.cyp_spec.specs.ReadingLaws.{OneReading, OneTree, ReadIsFormed, ReadNotRefused, ReadPredsAreFormed, SomeReading};
 
 /// Law: lexemes spell one tree of a specification at most.
 pub fn lexemes_spell_one_tree()
@@ -20,4 +20,9 @@ pub fn no_text_is_read_and_refused()
 /// written and in its normal form.
 pub fn goal_that_is_read_is_formed()
     ensures { ReadIsFormed }
+{}
+
+/// Law: the predicates of a specification that is read are formed.
+pub fn predicates_that_are_read_are_formed()
+    ensures { ReadPredsAreFormed }
 {}

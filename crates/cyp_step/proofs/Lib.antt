@@ -1,6 +1,9 @@
 pub mod ChunkLists
 pub mod EachRule
 mod Examples
+pub mod ExamplesDispose
+mod ExamplesSteps
+pub mod ExamplesStores
 pub mod FlatRaws
 pub mod GoalWithin
 pub mod OpenedLink

@@ -33,10 +33,11 @@ falling (a ∷ b ∷ vs) = Lt (var_term b) (var_term a) ∷ falling (b ∷ vs)
 abbrev pub cells_at : List Var → List Chunk
 cells_at vs = map (λ v. Cell (record { at = var_term v; content = number_term (pos 7) })) vs
 
--- the variable of the chain's address, and the existentials, one for each cell
+-- the variable of the chain's address
 abbrev pub chain_start : Var
 chain_start = record { sort = Int; number = 0 }
 
+-- the existentials, one for each cell
 abbrev pub chain_exist : ℕ → List Var
 chain_exist n = new_ints 1 n
 
@@ -51,14 +52,17 @@ chain n = record {
   post = record { chunks = cells_at (chain_exist n) };
 }
 
+-- the chain as a specification without predicates
 abbrev pub chain_spec : ℕ → Specification
 chain_spec n = record { preds = record { list = [] }; name = codes "gen"; goal = chain n }
 
+-- how a verdict is named
 abbrev pub verdict_name : PlainVerdict Rule Node → List ℕ
 verdict_name (Found d) = codes "program"
 verdict_name NoneFound = codes "no program"
 verdict_name BudgetSpent = codes "budget spent"
 
+-- the status of a verdict
 abbrev pub verdict_status : PlainVerdict Rule Node → Status
 verdict_status (Found d) = Program
 verdict_status NoneFound = NoProgram

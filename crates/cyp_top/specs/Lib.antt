@@ -7,3 +7,4 @@ pub mod Reports
 pub mod RunOutput
 pub mod Synthesis
 pub mod WholeOutput
+pub mod Workers

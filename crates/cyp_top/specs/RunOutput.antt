@@ -54,6 +54,7 @@ ended_output k h = output (line (codes "ended after " ++ decimal k ++ codes " st
 abbrev pub faulted_output : Cause → ℕ → Output
 faulted_output c k = output (line (codes "faulted: " ++ cause_name c ++ codes " at step " ++ decimal k)) NoProgram
 
+-- the fuel is spent
 abbrev pub spent_output : Output
 spent_output = output (line (codes "spent")) Spent
 
@@ -93,6 +94,7 @@ pub record Spends (i : RunInput) (fuel : ℕ) (o : Output) : Type 0 where
   pub going : has_ended state ≡ false
   pub said : o ≡ spent_output
 
+-- the run ends, faults or spends the fuel, and this is what is said of it
 abbrev pub IsRunOutput : RunInput → ℕ → Output → Type 0
 IsRunOutput i fuel o = Ends i fuel o ⊎ (Faults i fuel o ⊎ Spends i fuel o)
 

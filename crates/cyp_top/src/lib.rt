@@ -2,10 +2,12 @@
 #![tactic(auto)]
 
 mod answer;
+mod laws;
 mod run;
 mod status;
 #[cfg(test)]
 mod tests;
 
+pub use laws::{whole_output_is_one, workers_change_nothing};
 pub use run::{output_is_one, run_still};
 pub use status::Status;

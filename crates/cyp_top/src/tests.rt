@@ -1,4 +1,4 @@
-ghost use Rattle.std.specs.Prelude.{◌≡◌, ◌<◌};
+ghost use Rattle.std.specs.Prelude.{◌≡◌, ◌<◌, ◌≤◌, length};
 
 use crate::answer::report_of;
 use crate::{Status, run_still};
@@ -180,7 +180,9 @@ fn words_and_faults_have_their_answers(rt: HostRuntime) -> Result<(), Fail> {
 }
 
 /// How many leaves the search from the text's root expands, where the text is flat.
-fn expansions(alloc: Global, text: &[u8]) -> Result<Option<u32>, NoMemory> {
+fn expansions(alloc: Global, text: &[u8]) -> Result<Option<u32>, NoMemory>
+    requires { length text.now ≤ 65536 }
+{
     let Some(text) = read_flat(alloc, text)? else {
         return Ok(None);
     };

@@ -12,6 +12,7 @@ Text = List ℕ
 pub data Choice : Type 0 where
   Budget Unfold Workers Fuel : Choice
 
+-- the word of an option
 abbrev pub choice_word : Choice → Text
 choice_word Budget = codes "--budget"
 choice_word Unfold = codes "--unfold"

@@ -43,6 +43,7 @@ chosen c default [] = default
 chosen c default (Numbered d text ∷ os) = cond (choice_eq c d) (number_or default (choice_number d text)) (chosen c default os)
 chosen c default (Stats ∷ os) = chosen c default os
 
+-- the flag `--stats` is written
 abbrev pub has_stats : List Written → Bool
 has_stats os = list_any (same_option Stats) os
 

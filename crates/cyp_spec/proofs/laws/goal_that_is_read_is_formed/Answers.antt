@@ -1,4 +1,4 @@
-use Rattle.cyp_spec.proofs.ReadGoals.{read_is_formed}
+use Rattle.cyp_spec.proofs.ReadTrees.{read_is_formed}
 use Rattle.cyp_spec.proofs.laws.goal_that_is_read_is_formed.Goals as goal
 
 pub returns : goal.returns

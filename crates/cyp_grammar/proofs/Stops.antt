@@ -3,7 +3,7 @@ use Rattle.std.specs.Prelude.{Err, List, Ok, Result, [], length, ◌++◌, ◌�
 use Rattle.cyp_grammar.specs.Lexemes.{Lexeme}
 use Rattle.cyp_grammar.specs.Spelling.{Mark, Match}
 use Rattle.cyp_grammar.specs.Beginnings.{Begins, Refused}
-use Rattle.cyp_grammar.specs.Readers.{AName, IsNamed, NoName, Read, Stop, ◌>>=◌}
+use Rattle.cyp_grammar.proofs.Readers.{AName, IsNamed, NoName, Read, Stop, ◌>>=◌}
 
 -- the stop is at the first lexeme that is refused, and says whether a name is allowed in its place
 pub record IsStop (A : Type 0) (spell : A → List Mark) (ts : List Lexeme) (s : Stop) : Type 0 where

@@ -4,7 +4,7 @@ use Rattle.std.proofs.Common.{inl, inr}
 use Rattle.cyp_lex.specs.declared.token.Sign.TheVariants.{Comma, LeftBrace, Minus, Plus, RightBrace, TwoPluses}
 use Rattle.cyp_grammar.specs.Lexemes.{Lexeme, Said, Symbol}
 use Rattle.cyp_grammar.specs.Spelling.{Ident}
-use Rattle.cyp_grammar.specs.Readers.{AName, NoName, Read, both, closed, first_tells, ident_token, is_name, is_number, is_sign, listing, mapped, number_token, one_of, option_after, placed_number, plainly, sign_place, sign_token, single, telling}
+use Rattle.cyp_grammar.proofs.Readers.{AName, NoName, Read, both, closed, first_tells, ident_token, is_name, is_number, is_sign, listing, mapped, number_token, one_of, option_after, placed_number, plainly, sign_place, sign_token, single, telling}
 use Rattle.cyp_spec.specs.Trees.{Braces, IntTree, MinusNum, NameMinus, NamePlus, Named, Num, NumPlus, PartName, PartTree, SetTree}
 
 -- true for a plus

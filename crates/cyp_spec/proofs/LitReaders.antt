@@ -4,9 +4,9 @@ use Rattle.std.proofs.Common.{inl, inr}
 use Rattle.cyp_lex.specs.declared.token.Sign.TheVariants.{AtLeast, AtMost, Equal, Greater, LeftParen, Less, RightParen, Same, Subset, TwoPluses, Unequal}
 use Rattle.cyp_lex.specs.declared.token.Word.TheVariants.{In, Not}
 use Rattle.cyp_grammar.specs.Lexemes.{Lexeme, Said, Symbol}
-use Rattle.cyp_grammar.specs.Readers.{AName, NoName, Read, both, first_tells, is_word, mapped, one_of, plainly, second_tells, sign_token, single, stop, telling, word_place, word_token}
+use Rattle.cyp_grammar.proofs.Readers.{AName, NoName, Read, both, first_tells, is_word, mapped, one_of, plainly, second_tells, sign_token, single, stop, telling, word_place, word_token}
 use Rattle.cyp_spec.specs.Trees.{Comparing, Comparison, Inside, IntTree, IsAbove, IsAtLeast, IsAtMost, IsBelow, IsEqual, IsUnequal, LitTree, Negation, SameSets, SetTree, SubSets}
-use Rattle.cyp_spec.specs.TermReaders.{begins_int, begins_set, int_at, set_at}
+use Rattle.cyp_spec.proofs.TermReaders.{begins_int, begins_set, int_at, set_at}
 
 abbrev pub comparison_of : Said → Option Comparison
 comparison_of (Symbol Equal) = Some IsEqual

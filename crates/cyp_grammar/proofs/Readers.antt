@@ -5,7 +5,7 @@ use Rattle.cyp_lex.specs.declared.token.Sign.{Sign}
 use Rattle.cyp_lex.specs.declared.token.Sign.TheVariants.{Comma}
 use Rattle.cyp_lex.specs.declared.token.Word.{Word}
 use Rattle.cyp_grammar.specs.Lexemes.{Lexeme, Name, Number, Reserved, Said, Symbol}
-use Rattle.cyp_grammar.specs.SameSigns.{same_sign, same_word}
+use Rattle.cyp_grammar.proofs.SignTests.{same_sign, same_word}
 use Rattle.cyp_grammar.specs.Spelling.{Ident}
 
 -- what is allowed where a reader stops: a name, or no name

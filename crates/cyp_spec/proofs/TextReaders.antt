@@ -4,10 +4,10 @@ use Rattle.cyp_lex.specs.declared.token.Sign.TheVariants.{Bar, Implies, LeftBrac
 use Rattle.cyp_lex.specs.declared.token.Word.TheVariants.{Int, Loc, Predicate, Set, Void}
 use Rattle.cyp_grammar.specs.Lexemes.{Lexeme, Reserved, Said}
 use Rattle.cyp_grammar.specs.Spelling.{Ident}
-use Rattle.cyp_grammar.specs.Readers.{NoName, Read, both, enclosed, ident_token, is_sign, is_word, mapped, placed, repeating, sign_place, sign_token, single, telling, word_token}
+use Rattle.cyp_grammar.proofs.Readers.{NoName, Read, both, enclosed, ident_token, is_sign, is_word, mapped, placed, repeating, sign_place, sign_token, single, telling, word_token}
 use Rattle.cyp_spec.specs.Trees.{BodyTree, ClauseTree, IntSort, LitTree, LocSort, ParamTree, PredTree, SetSort, SortTree, TextTree}
-use Rattle.cyp_spec.specs.LitReaders.{lit_at}
-use Rattle.cyp_spec.specs.BodyReaders.{body_at}
+use Rattle.cyp_spec.proofs.LitReaders.{lit_at}
+use Rattle.cyp_spec.proofs.BodyReaders.{body_at}
 
 abbrev pub sort_of : Said → Option SortTree
 sort_of (Reserved Loc) = Some LocSort

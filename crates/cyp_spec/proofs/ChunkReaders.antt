@@ -5,9 +5,9 @@ use Rattle.cyp_lex.specs.declared.token.Sign.TheVariants.{Comma, LeftBrace, Left
 use Rattle.cyp_lex.specs.declared.token.Word.TheVariants.{Emp}
 use Rattle.cyp_grammar.specs.Lexemes.{Lexeme, Said}
 use Rattle.cyp_grammar.specs.Spelling.{Ident}
-use Rattle.cyp_grammar.specs.Readers.{AName, NoName, Read, both, enclosed, first_tells, ident_token, is_name, is_number, is_sign, is_word, listing, mapped, number_token, one_of, option_after, placed_number, sign_token, word_token}
+use Rattle.cyp_grammar.proofs.Readers.{AName, NoName, Read, both, enclosed, first_tells, ident_token, is_name, is_number, is_sign, is_word, listing, mapped, number_token, one_of, option_after, placed_number, sign_token, word_token}
 use Rattle.cyp_spec.specs.Trees.{ArgTree, BlockOf, BracesArg, ChunkTree, InstanceOf, IntTree, MinusNum, Named, NamedCell, PartTree, TermArg, TermCell, UnionArg}
-use Rattle.cyp_spec.specs.TermReaders.{Inner, MinusTerm, NumberTerm, begins_int, begins_other, braces_at, inner_terms, int_at, is_sum, minus_term, number_term, number_tree, parts_at, sum_sign, sum_tree}
+use Rattle.cyp_spec.proofs.TermReaders.{Inner, MinusTerm, NumberTerm, begins_int, begins_other, braces_at, inner_terms, int_at, is_sum, minus_term, number_term, number_tree, parts_at, sum_sign, sum_tree}
 
 -- the parts of a union behind its first
 abbrev pub MoreParts : Type 0

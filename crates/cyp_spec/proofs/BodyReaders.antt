@@ -4,10 +4,10 @@ use Rattle.std.proofs.Common.{inl, inr}
 use Rattle.cyp_lex.specs.declared.token.Sign.TheVariants.{AndAnd, Semicolon, SlashAnd}
 use Rattle.cyp_lex.specs.declared.token.Word.TheVariants.{True}
 use Rattle.cyp_grammar.specs.Lexemes.{Lexeme, Said, Symbol}
-use Rattle.cyp_grammar.specs.Readers.{AName, NoName, Read, both, first_tells, is_sign, is_word, mapped, one_of, plainly, repeating, second_tells, sign_token, single, telling, word_token}
+use Rattle.cyp_grammar.proofs.Readers.{AName, NoName, Read, both, first_tells, is_sign, is_word, mapped, one_of, plainly, repeating, second_tells, sign_token, single, telling, word_token}
 use Rattle.cyp_spec.specs.Trees.{Ampersands, BodyTree, ChunkTree, Conjunction, ItemTree, Items, LitItem, LitTree, NoItems, Slashes, TrueItem}
-use Rattle.cyp_spec.specs.LitReaders.{begins_lit, lit_at}
-use Rattle.cyp_spec.specs.ChunkReaders.{begins_heap, heap_at, is_chunk_tail}
+use Rattle.cyp_spec.proofs.LitReaders.{begins_lit, lit_at}
+use Rattle.cyp_spec.proofs.ChunkReaders.{begins_heap, heap_at, is_chunk_tail}
 
 abbrev pub item_tree : Unit {0} ⊎ LitTree → ItemTree
 item_tree (inl u) = TrueItem
