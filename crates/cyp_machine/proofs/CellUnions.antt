@@ -1,5 +1,5 @@
 -- Unions of heaps at several addresses.
-use Rattle.std.proofs.Common.{[], Bool, List, None, ap, inl, inr, is_none, is_some, length, pos, refl, sym, true, ℤ, ◌+ℤ◌, ◌∙◌, ◌∷◌, ◌≡◌}
+use Rattle.std.proofs.Common.{[], ◌+ℤ◌, Bool, List, None, ap, inl, inr, is_none, is_some, length, pos, refl, sym, true, ℤ, ◌∙◌, ◌∷◌, ◌≡◌}
 use Rattle.std.proofs.lemmas.Bool.{and_from, and_parts}
 use Rattle.std.specs.FinMap.{FinMap, get}
 use Rattle.std.specs.List.{list_all}

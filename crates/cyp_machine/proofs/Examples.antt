@@ -13,23 +13,23 @@ use Rattle.cyp_prog.specs.Programs.{Body, Choosing, End, Failing, Giving, Invoki
 use Rattle.cyp_prog.specs.declared.stmt.Expr.{Expr}
 use Rattle.cyp_prog.specs.declared.stmt.TestSign.TheVariants.{Equal}
 
-abbrev v1 : Expr
+abbrev pub v1 : Expr
 v1 = record { var = Some 1; offset = pos 0 }
 
 abbrev nought : Expr
 nought = record { var = None; offset = pos 0 }
 
-abbrev procedure : Body → Procedure
+abbrev pub procedure : Body → Procedure
 procedure b = record { name = []; params = 1; body = b }
 
 -- the program of one procedure, at an argument
-abbrev begun : Body → ℤ → Store → State
+abbrev pub begun : Body → ℤ → Store → State
 begun b z h = start (procedure b ∷ []) 0 (z ∷ []) h
 
 -- ---- free(v1), where the block is there but its cells aren't
 
 -- a block of two cells at 5, and no cell
-abbrev bare : Store
+abbrev pub bare : Store
 bare = record { cells = empty; blocks = insert empty (pos 5) 2 }
 
 bare_block : get bare.blocks (pos 5) ≡ Some 2
@@ -42,11 +42,11 @@ free_missing =
 
 -- ---- let v2 = *v1
 
-abbrev reading : Body
+abbrev pub reading : Body
 reading = Then (Loading 2 v1) End
 
 -- the cell at 5 contains 7
-abbrev one_cell : Store
+abbrev pub one_cell : Store
 one_cell = record { cells = insert empty (pos 5) (pos 7); blocks = empty }
 
 the_cell : get one_cell.cells (pos 5) ≡ Some (pos 7)
@@ -55,7 +55,7 @@ the_cell = get-insert int_cmp_total empty (pos 5) (pos 7) (pos 5)
 read_missing : fault (begun reading (pos 5) no_store) ≡ Some ReadMissing
 read_missing = ap (λ (o : Option ℤ). unless_there (is_some o) ReadMissing) (get-empty int_cmp (pos 5))
 
-read_there : fault (begun reading (pos 5) one_cell) ≡ None
+pub read_there : fault (begun reading (pos 5) one_cell) ≡ None
 read_there = ap (λ (o : Option ℤ). unless_there (is_some o) ReadMissing) the_cell
 
 read_step : Step (procedure reading ∷ []) (begun reading (pos 5) one_cell)
@@ -81,13 +81,13 @@ error_reached = refl
 
 -- ---- a call of an empty procedure, and the return: two steps
 
-abbrev calling : List Procedure
+abbrev pub calling : List Procedure
 calling = procedure (Then (Invoking 1 (v1 ∷ [])) End) ∷ procedure End ∷ []
 
-abbrev in_call : State
+abbrev pub in_call : State
 in_call = record { store = no_store; frames = record { values = (1, pos 4) ∷ []; rest = End } ∷ record { values = (1, pos 4) ∷ []; rest = End } ∷ [] }
 
-abbrev returned : State
+abbrev pub returned : State
 returned = record { store = no_store; frames = record { values = (1, pos 4) ∷ []; rest = End } ∷ [] }
 
 call_and_return : Run calling 2 (start calling 0 (pos 4 ∷ []) no_store) returned

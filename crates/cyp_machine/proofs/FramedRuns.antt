@@ -1,9 +1,10 @@
 -- A run in a larger heap is one in the smaller heap, where no run in that comes to a fault.
-use Rattle.std.proofs.Common.{List, None, arith, refl, subst, suc, zero, ℕ, ◌≡◌, ◌≤◌}
+use Rattle.std.proofs.Common.{◌+◌, List, None, arith, refl, subst, suc, sym, zero, ℕ, ◌≡◌, ◌≤◌}
 use Rattle.cyp_heap.specs.Stores.{Store}
 use Rattle.cyp_machine.proofs.FramedSteps.{step_framing}
+use Rattle.cyp_machine.specs.Allocations.{frames_allocate}
 use Rattle.cyp_machine.specs.Faults.{fault}
-use Rattle.cyp_machine.specs.Framing.{Beside, FramingLaw, RunBeside, RunsSafely}
+use Rattle.cyp_machine.specs.Framing.{Beside, FramingLaw, IsFramed, RunBeside, RunsSafely}
 use Rattle.cyp_machine.specs.Runs.{Run}
 use Rattle.cyp_machine.specs.States.{State}
 use Rattle.cyp_machine.specs.Steps.{Step}
@@ -16,13 +17,17 @@ pub later_safe : (ps : List Procedure) (n : ℕ) (s u : State) → Step ps s u �
 later_safe ps n s u step safe m t le r = safe (suc m) t (omega arith) (u, step, r)
 
 run_beside : (ps : List Procedure) (n : ℕ) (extra : Store) (s a : State) → Beside extra s a → RunsSafely ps n a
-    → (m : ℕ) (t : State) → m ≤ n → Run ps m s t → (b : State) × Run ps m a b × RunBeside ps extra m s a t b
-run_beside ps n extra s a beside safe zero t le r = (a, refl, (r, refl, subst (λ (x : State). Beside extra x a) r beside))
+    → (m : ℕ) (t : State) → m ≤ n → (run : Run ps m s t) → IsFramed ps extra m s a t run
+run_beside ps n extra s a beside safe zero t le r = (a, refl, (r, refl, subst (λ (x : State). Beside extra x a) r beside), refl)
 run_beside ps zero extra s a beside safe (suc m) t le r = absurd (omega arith)
 run_beside ps (suc n) extra s a beside safe (suc m) t le r =
     let one = (step_framing ps extra s a beside (first_safe ps (suc n) a safe)).1 r.0 r.1 in
-    let more = run_beside ps n extra r.0 one.0 one.2 (later_safe ps n a one.0 one.1 safe) m t (omega arith) r.2 in
-    (more.0, (one.0, one.1, more.1), (r.0, one.0, r.1, one.1, one.2, more.2))
+    let more = run_beside ps n extra r.0 one.0 one.2 (later_safe ps n a one.0 one.1 safe) m t (omega arith) r.2 in (
+      more.0,
+      (one.0, one.1, more.1),
+      (r.0, one.0, r.1, one.1, one.2, more.2),
+      (λ i. frames_allocate ((sym beside.1) i) + more.3 i),
+    )
 
 -- two such runs end beside the same part
 pub last_beside : (ps : List Procedure) (extra : Store) (m : ℕ) (s a t b : State) → RunBeside ps extra m s a t b → Beside extra t b

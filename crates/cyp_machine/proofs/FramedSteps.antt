@@ -127,10 +127,10 @@ module _ (all part extra : Store) (u : IsUnion all part extra) where
     frames_local (g ∷ below) t f s = body_local g.values g.rest below t f s
 
 -- the same where the bodies are those of the small state
-abbrev IsFramed : List Procedure → Store → Store → List Frame → State → Type 0
-IsFramed ps extra h fs a = (fault (state h fs) ≡ None) × ((u : State) → Step ps (state h fs) u → (c : State) × Step ps a c × Beside extra u c)
+abbrev StepsFramed : List Procedure → Store → Store → List Frame → State → Type 0
+StepsFramed ps extra h fs a = (fault (state h fs) ≡ None) × ((u : State) → Step ps (state h fs) u → (c : State) × Step ps a c × Beside extra u c)
 
 pub step_framing : StepFramingLaw
 step_framing ps extra s a b f =
-    subst (λ (fs : List Frame). IsFramed ps extra s.store fs a) (sym b.1)
+    subst (λ (fs : List Frame). StepsFramed ps extra s.store fs a) (sym b.1)
     (frames_safe s.store a.store extra b.0 a.frames f, λ u t. frames_local s.store a.store extra b.0 ps a.frames u f t)

@@ -1,13 +1,13 @@
 -- A run of bodies with something later is inside the bodies, or past them.
-use Rattle.std.proofs.Common.{[], List, ap, false, inl, inr, refl, subst, suc, sym, zero, ℕ, ◌∙◌, ◌∷◌, ◌≡◌, ◌⊎◌}
+use Rattle.std.proofs.Common.{[], ◌+◌, List, ap, false, inl, inr, refl, suc, sym, zero, ℕ, ◌∙◌, ◌∷◌, ◌≡◌, ◌⊎◌}
 use Rattle.std.proofs.lemmas.Bool.{true≢false}
 use Rattle.cyp_heap.specs.Stores.{Store}
 use Rattle.cyp_machine.proofs.Effects.{Calls, Goes, HasEffect, effect}
 use Rattle.cyp_machine.proofs.Followed.{followed-assoc}
-use Rattle.cyp_machine.proofs.Joined.{plus_suc, plus_zero}
+use Rattle.cyp_machine.proofs.Joined.{add_parts, begun, counted, none_made, plus_suc, plus_zero, stepped}
+use Rattle.cyp_machine.specs.Allocations.{RunAllocates, allocated, frames_allocate}
 use Rattle.cyp_machine.specs.Faults.{fault}
 use Rattle.cyp_machine.specs.Parts.{FollowedLaw, InnerRunLaw, IsInside, IsPast, frame, state, with_rest}
-use Rattle.cyp_machine.specs.Runs.{Run}
 use Rattle.cyp_machine.specs.States.{Frame, State, frames_ended, has_ended}
 use Rattle.cyp_machine.specs.Steps.{Step, followed_by}
 use Rattle.cyp_machine.specs.Values.{Values}
@@ -38,7 +38,7 @@ module _ (ps : List Procedure) (b : Body) (below : List Frame) where
   moves h vs (Then c a) [] u e s = last_moves h c vs a u (effect ps c h vs (followed_by a b) below u s)
   moves h vs (Then c a) (g ∷ gs) u e s = above_moves h c vs a g gs u (effect ps c h vs a (with_rest b below g gs) u s)
 
-  -- ---- bodies that haven't ended: with what comes later they fault alike, and haven't ended either
+  -- ---- bodies that haven't ended: with what comes later they fault and allocate alike, and haven't ended either
 
   same_fault : (h : Store) (vs : Values) (a : Body) (fs : List Frame) → frames_ended (frame vs a ∷ fs) ≡ false
       → fault (state h (with_rest b below (frame vs a) fs)) ≡ fault (state h (frame vs a ∷ fs))
@@ -46,6 +46,13 @@ module _ (ps : List Procedure) (b : Body) (below : List Frame) where
   same_fault h vs End (g ∷ gs) e = refl
   same_fault h vs (Then c a) [] e = refl
   same_fault h vs (Then c a) (g ∷ gs) e = refl
+
+  same_allocation : (vs : Values) (a : Body) (fs : List Frame) → frames_ended (frame vs a ∷ fs) ≡ false
+      → frames_allocate (with_rest b below (frame vs a) fs) ≡ frames_allocate (frame vs a ∷ fs)
+  same_allocation vs End [] e = absurd (true≢false e)
+  same_allocation vs End (g ∷ gs) e = refl
+  same_allocation vs (Then c a) [] e = refl
+  same_allocation vs (Then c a) (g ∷ gs) e = refl
 
   not_ended : (vs : Values) (c : Statement) (a : Body) (fs : List Frame) → frames_ended (frame vs (Then c a) ∷ fs) ≡ false
   not_ended vs c a [] = refl
@@ -65,33 +72,69 @@ module _ (ps : List Procedure) (b : Body) (below : List Frame) where
   ended_or_not vs End (g ∷ gs) = inr refl
   ended_or_not vs (Then c a) fs = inr (not_ended vs c a fs)
 
-  at_end : (n : ℕ) (h : Store) (vs : Values) (a : Body) (fs : List Frame) (t : State) → a ≡ End → fs ≡ []
-      → Run ps n (state h (with_rest b below (frame vs a) fs)) t → IsPast ps n h (frame vs a) fs b below t
-  at_end n h vs End [] t e f r = (0, n, plus_zero n, h, vs, refl, r)
-  at_end n h vs (Then c a) fs t e f r = cc
-  at_end n h vs End (g ∷ gs) t e f r = cc
+  -- what the run from these bodies is, with what comes later
+  abbrev InsideOrPast : ℕ → ℕ → Store → Frame → List Frame → State → Type 0
+  InsideOrPast n c h f fs t = IsInside ps n c h f fs b below t ⊎ IsPast ps n c h f fs b below t
+
+  at_end : (n c : ℕ) (h : Store) (vs : Values) (a : Body) (fs : List Frame) (t : State) → a ≡ End → fs ≡ []
+      → RunAllocates ps n c (state h (with_rest b below (frame vs a) fs)) t → IsPast ps n c h (frame vs a) fs b below t
+  at_end n c h vs End [] t e f r = (0, n, plus_zero n, 0, c, plus_zero c, h, vs, none_made ps (state h (frame vs End ∷ [])), r)
+  at_end n c h vs (Then s a) fs t e f r = cc
+  at_end n c h vs End (g ∷ gs) t e f r = cc
 
   -- one step before
-  stepped : (n : ℕ) (h g : Store) (f k : Frame) (fs ks : List Frame) (t : State) → Step ps (state h (f ∷ fs)) (state g (k ∷ ks))
-      → IsInside ps n g k ks b below t ⊎ IsPast ps n g k ks b below t → IsInside ps (suc n) h f fs b below t ⊎ IsPast ps (suc n) h f fs b below t
-  stepped n h g f k fs ks t s (inl i) = inl (i.0, i.1, i.2, i.3, (state g (k ∷ ks), s, i.4), i.5, i.6, i.7)
-  stepped n h g f k fs ks t s (inr p) = inr (suc p.0, p.1, plus_suc p.0 p.1 ∙ ap suc p.2, p.3, p.4, (state g (k ∷ ks), s, p.5), p.6)
+  step_before : (n c d : ℕ) (h g : Store) (f k : Frame) (fs ks : List Frame) (t : State) → Step ps (state h (f ∷ fs)) (state g (k ∷ ks))
+      → frames_allocate (f ∷ fs) + d ≡ c → InsideOrPast n d g k ks t → InsideOrPast (suc n) c h f fs t
+  step_before n c d h g f k fs ks t s e (inl i) = inl (
+    i.0,
+    i.1,
+    i.2,
+    i.3,
+    counted ps (suc n) (suc n) (frames_allocate (f ∷ fs) + d) c (state h (f ∷ fs)) (state i.0 (i.1 ∷ i.2)) refl e
+        (stepped ps n d (state h (f ∷ fs)) (state g (k ∷ ks)) (state i.0 (i.1 ∷ i.2)) s i.4),
+    i.5,
+    i.6,
+    i.7,
+  )
+  step_before n c d h g f k fs ks t s e (inr p) = inr (
+    suc p.0,
+    p.1,
+    plus_suc p.0 p.1 ∙ ap suc p.2,
+    frames_allocate (f ∷ fs) + p.3,
+    p.4,
+    add_parts (frames_allocate (f ∷ fs)) p.3 p.4 d c p.5 e,
+    p.6,
+    p.7,
+    stepped ps p.0 p.3 (state h (f ∷ fs)) (state g (k ∷ ks)) (state p.6 (frame p.7 End ∷ [])) s p.8,
+    p.9,
+  )
 
-  pub inner : (n : ℕ) (h : Store) (f : Frame) (fs : List Frame) (t : State)
-      → Run ps n (state h (with_rest b below f fs)) t → IsInside ps n h f fs b below t ⊎ IsPast ps n h f fs b below t
-  inner zero h f fs t r = elim (ended_or_not f.values f.rest fs) [
-    | inl e ↦ inr (at_end 0 h f.values f.rest fs t e.0 e.1 r)
-    | inr e ↦ inl (h, f, fs, sym r, refl, e, ap fault (sym r) ∙ same_fault h f.values f.rest fs e, ap has_ended (sym r) ∙ goes_on h f.values f.rest fs e)
+  pub inner : (n c : ℕ) (h : Store) (f : Frame) (fs : List Frame) (t : State)
+      → RunAllocates ps n c (state h (with_rest b below f fs)) t → InsideOrPast n c h f fs t
+  inner zero c h f fs t r = elim (ended_or_not f.values f.rest fs) [
+    | inl e ↦ inr (at_end 0 c h f.values f.rest fs t e.0 e.1 r)
+    | inr e ↦ inl (
+      h,
+      f,
+      fs,
+      sym r.0,
+      counted ps 0 0 0 c (state h (f ∷ fs)) (state h (f ∷ fs)) refl r.1 (none_made ps (state h (f ∷ fs))),
+      e,
+      ap fault (sym r.0) ∙ same_fault h f.values f.rest fs e,
+      ap has_ended (sym r.0) ∙ goes_on h f.values f.rest fs e,
+    )
   ]
-  inner (suc n) h f fs t r = elim (ended_or_not f.values f.rest fs) [
-    | inl e ↦ inr (at_end (suc n) h f.values f.rest fs t e.0 e.1 r)
+  inner (suc n) c h f fs t r = elim (ended_or_not f.values f.rest fs) [
+    | inl e ↦ inr (at_end (suc n) c h f.values f.rest fs t e.0 e.1 r)
     | inr e ↦
-        let m = moves h f.values f.rest fs r.0 e r.1 in
-        stepped n h m.0 f m.1 fs m.2 t m.4 (inner n m.0 m.1 m.2 t (subst (λ (x : State). Run ps n x t) m.3 r.2))
+        let m = moves h f.values f.rest fs r.0.0 e r.0.1 in
+        let d : ℕ = allocated ps n r.0.0 t r.0.2 in
+        step_before n c d h m.0 f m.1 fs m.2 t m.4 (ap (λ (k : ℕ). k + d) (sym (same_allocation f.values f.rest fs e)) ∙ r.1)
+        (inner n d m.0 m.1 m.2 t (begun ps n d r.0.0 (state m.0 (with_rest b below m.1 m.2)) t m.3 (r.0.2, refl)))
   ]
 
 pub inner_run : InnerRunLaw
-inner_run ps n h f fs b below t r = inner ps b below n h f fs t r
+inner_run ps n c h f fs b below t r = inner ps b below n c h f fs t r
 
 pub followed : FollowedLaw
-followed ps n h vs a b t r = inner ps b [] n h (frame vs a) [] t r
+followed ps n c h vs a b t r = inner ps b [] n c h (frame vs a) [] t r

@@ -1,6 +1,8 @@
+pub mod Allocated
 pub mod Calls
 pub mod CellUnions
 pub mod ClosedPrograms
+pub mod Counts
 pub mod Effects
 pub mod Examples
 pub mod Followed
@@ -14,8 +16,10 @@ pub mod InputExamples
 pub mod InputLaws
 pub mod Inputs
 pub mod Joined
+pub mod Kept
 pub mod Least
 pub mod LeastRuns
 pub mod LineLaws
 pub mod Options
+pub mod PartsExamples
 pub mod RunInputReaders

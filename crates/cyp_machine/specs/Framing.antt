@@ -1,6 +1,7 @@
 -- Runs in a larger heap.
 use Rattle.std.specs.Prelude.{List, None, suc, zero, ℕ, ◌≡◌, ◌≤◌}
 use Rattle.cyp_heap.specs.Stores.{IsUnion, Store}
+use Rattle.cyp_machine.specs.Allocations.{allocated}
 use Rattle.cyp_machine.specs.Faults.{fault}
 use Rattle.cyp_machine.specs.Runs.{Run}
 use Rattle.cyp_machine.specs.States.{State}
@@ -26,8 +27,13 @@ abbrev pub StepFramingLaw : Type 0
 StepFramingLaw = (ps : List Procedure) (extra : Store) (s a : State) → Beside extra s a → fault a ≡ None
     → (fault s ≡ None) × ((u : State) → Step ps s u → (c : State) × Step ps a c × Beside extra u c)
 
+-- the run from s is, step by step, one from a beside the further part, and allocates as many cells
+abbrev pub IsFramed : (ps : List Procedure) (extra : Store) (m : ℕ) (s a t : State) → Run ps m s t → Type 0
+IsFramed ps extra m s a t run =
+    (b : State) × (own : Run ps m a b) × RunBeside ps extra m s a t b × (allocated ps m a b own ≡ allocated ps m s t run)
+
 -- where no run of at most n steps from the small state comes to a fault, none from the large one does, and each of these
--- is, step by step, a run from the small state beside the same part
+-- is one from the small state beside the same part
 abbrev pub FramingLaw : Type 0
 FramingLaw = (ps : List Procedure) (n : ℕ) (extra : Store) (s a : State) → Beside extra s a → RunsSafely ps n a
-    → RunsSafely ps n s × ((m : ℕ) (t : State) → m ≤ n → Run ps m s t → (b : State) × Run ps m a b × RunBeside ps extra m s a t b)
+    → RunsSafely ps n s × ((m : ℕ) (t : State) → m ≤ n → (run : Run ps m s t) → IsFramed ps extra m s a t run)

@@ -1,3 +1,4 @@
+pub mod Allocations
 pub mod Closed
 pub mod ClosedLaws
 pub mod Faults

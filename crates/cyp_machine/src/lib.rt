@@ -1,12 +1,14 @@
 //! The machine that runs programs: its states, its steps and their faults, and the input of a run.
 #![tactic(auto)]
 
+mod allocations;
 mod cause;
 mod framing;
 mod laws;
 mod parts;
 mod run_input;
 
+pub use allocations::cells_are_within_steps;
 pub use cause::Cause;
 pub use framing::runs_in_larger_heaps;
 pub use laws::{
