@@ -1,6 +1,6 @@
 -- The output of a text: it is one, and what the code says is it.
-use Rattle.std.proofs.Common.{◌≡◌, ◌∙◌, ◌⊎◌, inl, inr, ℕ, List, length, ◌≤◌, Bool, true, false, Option, Some, None, cond, refl, sym, ap, subst}
-use Rattle.std.proofs.lemmas.Bool.{false≢true, true≢false}
+use Rattle.std.proofs.Common.{◌≡◌, ◌∙◌, inl, inr, ℕ, List, length, ◌≤◌, Bool, true, false, Some, None, cond, refl, sym, ap}
+use Rattle.std.proofs.lemmas.Bool.{false≢true}
 use Rattle.std.proofs.lemmas.Option.{none-some, same_Some}
 use Rattle.cyp_heap.specs.declared.goal.Node.{Node}
 use Rattle.cyp_step.specs.declared.rule.Rule.{Rule}
@@ -11,7 +11,7 @@ use Rattle.cyp_cell_goal.specs.FlatGoal.{is_text_within, root_of, root_within}
 use Rattle.cyp_search.specs.Reports.{Found, NoneFound, PlainReport, PlainVerdict, Spent, report}
 use Rattle.cyp_search.proofs.FoundFollows.{found_follows}
 use Rattle.cyp_top.specs.Given.{IsFoundVerdict}
-use Rattle.cyp_top.specs.Output.{IsOutputBy, IsSynthOutput, IsTaken, Output, goal_space, not_built, search_report, synth_output, verdict_output}
+use Rattle.cyp_top.specs.Output.{IsOutputBy, IsSynthOutput, Output, goal_space, not_built, synth_output, verdict_output}
 
 -- there is one output at most
 pub one_output : (synth : Bool) (bytes : List ℕ) (a b : Output) → IsOutputBy synth bytes a → IsOutputBy synth bytes b → a ≡ b

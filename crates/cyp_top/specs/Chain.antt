@@ -41,11 +41,16 @@ chain_start = record { sort = Int; number = 0 }
 abbrev pub chain_exist : ℕ → List Var
 chain_exist n = new_ints 1 n
 
+-- the variables in the order in which they first stand in `y2 < y1`, `y3 < y2` and so on
+abbrev pub by_occurrence : List Var → List Var
+by_occurrence (a ∷ b ∷ vs) = b ∷ a ∷ vs
+by_occurrence vs = vs
+
 -- the cells from x on are to be found again at falling existential addresses
 abbrev pub chain : ℕ → Goal
 chain n = record {
   program = chain_start ∷ [];
-  exist = chain_exist n;
+  exist = by_occurrence (chain_exist n);
   pure_pre = [];
   pre = record { chunks = chain_cells chain_start n };
   pure_post = falling (chain_exist n);

@@ -1,5 +1,5 @@
 -- The lines of a report, and of faults.
-use Rattle.std.specs.Prelude.{List, [], codes, decimal, ◌++◌, ◌∷◌, Bool, false, true, ℕ}
+use Rattle.std.specs.Prelude.{List, [], codes, decimal, ◌++◌, Bool, false, true, ℕ}
 use Rattle.cyp_heap.specs.declared.goal.Node.{Node}
 use Rattle.cyp_lex.specs.declared.fault.FaultKind.{FaultKind}
 use Rattle.cyp_lex.specs.declared.fault.FaultKind.TheVariants.{BadByte, DuplicateName, Expected, GuardsOverlap, MissingProcedure, NotDifference, NumberRange, ReservedName, TooLarge, TooLong, UnboundVariable, UnknownPredicate, Unproductive, WrongArity, WrongSort}

@@ -1,5 +1,5 @@
 -- What `run` answers: how the run of a program from its start line ends.
-use Rattle.std.specs.Prelude.{Bool, Err, IsTrue, List, Ok, Result, Some, [], codes, decimal, false, flat_map, length, nat_le, suc, true, ◌++◌, ◌<◌, ◌≡◌, ◌≤◌, ◌⊎◌, ℕ, ℤ}
+use Rattle.std.specs.Prelude.{Bool, Err, IsTrue, List, Ok, Result, Some, codes, decimal, false, flat_map, length, nat_le, suc, true, ◌++◌, ◌<◌, ◌≡◌, ◌≤◌, ◌⊎◌, ℕ, ℤ}
 use Rattle.std.specs.FinMap.{entries}
 use Rattle.cyp_heap.specs.Stores.{Store}
 use Rattle.cyp_machine.specs.Faults.{fault}

@@ -90,10 +90,7 @@ fn synth(alloc: Global, text: &[u8]) -> Result<Ran, NoMemory> {
 fn flat_texts_are_answered(rt: HostRuntime) -> Result<(), Fail> {
     let alloc = rt.alloc();
     let constant = ending(alloc, Status::Program, b"void f(v1) {\n  *v1 = 5;\n}\n")?;
-    assert_eq!(rt;
-        synth(alloc, CONSTANT)?,
-        constant
-    );
+    assert_eq!(rt; synth(alloc, CONSTANT)?, constant);
     assert_eq!(rt;
         synth(alloc, SWAP)?,
         ending(alloc, Status::Program, SWAPPED)?
@@ -197,7 +194,10 @@ fn searches_end_after_so_many_expansions(rt: HostRuntime) -> Result<(), Fail> {
     let alloc = rt.alloc();
     assert_eq!(rt; expansions(alloc, CONSTANT)?, Some(3));
     assert_eq!(rt; expansions(alloc, SWAP)?, Some(7));
-    assert_eq!(rt; expansions(alloc, b"void f(loc x) { emp } { x :-> 1 }")?, Some(1));
+    assert_eq!(rt;
+        expansions(alloc, b"void f(loc x) { emp } { x :-> 1 }")?,
+        Some(1)
+    );
     assert_eq!(rt;
         expansions(alloc, b"void f(loc x) { x :-> 1 ** x :-> 2 } { emp }")?,
         Some(1)

@@ -1,7 +1,3 @@
-use Rattle.std.proofs.Common.{◌≡◌, IfOk}
-use Rattle.cyp_search.specs.PlainReports.{plain_report}
-use Rattle.cyp_search.specs.Reports.{report}
-use Rattle.cyp_top.specs.Output.{goal_space}
 use Rattle.cyp_top.proofs.answer.report_of.Goals as goal
 
 pub returns : goal.returns

@@ -1,4 +1,4 @@
-use Rattle.std.proofs.Common.{◌≡◌, ◌∙◌, false, refl, subst, sym}
+use Rattle.std.proofs.Common.{◌∙◌, false, refl, subst, sym}
 use Rattle.cyp_top.specs.Answers.{Answers, End}
 use Rattle.cyp_top.specs.Output.{words_refused}
 use Rattle.cyp_top.proofs.Sending.{sends_answer, unheard}
