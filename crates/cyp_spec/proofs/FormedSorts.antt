@@ -1,9 +1,10 @@
--- In each goal that is read the variables have the sorts of their places, and it is raw.
+-- Each goal that is read is raw, and its variables have the sorts of their places.
 use Rattle.std.proofs.Common.{List, [], ap, false, flat_map, inl, inr, not, refl, subst, suc, sym, true, ℕ, ◌&&◌, ◌++◌, ◌∙◌, ◌∷◌, ◌≡◌}
 use Rattle.std.specs.Prelude.{Bool}
 use Rattle.std.specs.List.{list_all}
 use Rattle.std.proofs.lemmas.Bool.{and_from, and_parts, not-true, not_from_false, or_parts}
 use Rattle.std.proofs.lemmas.List.Folds.{list_any-append}
+use Rattle.cyp_goal.proofs.Renumber.{no_set}
 use Rattle.cyp_goal.specs.Raw.{IsRaw, arg_fits, chunk_fits, is_sorted, lit_fits, set_fits, term_fits}
 use Rattle.cyp_heap.specs.Chunks.{card_vars, chunks_vars}
 use Rattle.cyp_heap.specs.PredsFormed.{arg_set_vars, arg_terms, chunk_set_vars, chunk_terms, lit_terms}
@@ -92,10 +93,6 @@ module _ (p q : Var → Bool) where
   chunk_from qs sc (InstanceOf i xs) f g = and_from _ _ (args_from (read_args sc (arg_sorts qs i xs) xs) f g) refl
 
 -- ---- the goal
-
--- no set variable stands here
-abbrev no_set : Var → Bool
-no_set v = not (is_set_var v)
 
 -- cardinalities are no set variables
 with_cards_fit : (k : ℕ) (cs : List Chunk) → list_all (chunk_fits no_set is_set_var) cs ≡ true → list_all (chunk_fits no_set is_set_var) (with_cards k cs) ≡ true
