@@ -18,7 +18,7 @@ use Rattle.cyp_spec.proofs.Distinct.{Distinct, distinct_apart}
 use Rattle.cyp_spec.proofs.FormedScope.{sort_has}
 use Rattle.cyp_spec.proofs.Scopes.{Has, grow, has_later}
 
-new_append : (xs ys zs : Scope) → with_all_new same_name xs (ys ++ zs) ≡ with_all_new same_name (with_all_new same_name xs ys) zs
+pub new_append : (xs ys zs : Scope) → with_all_new same_name xs (ys ++ zs) ≡ with_all_new same_name (with_all_new same_name xs ys) zs
 new_append xs [] zs = refl
 new_append xs (y ∷ ys) zs = new_append (with_new same_name xs y) ys zs
 

@@ -56,8 +56,11 @@ module _ (t : TextTree) (none : name_faults t ≡ []) where
   parts_none : (((repeats [] (param_names t.params) ++ flat_map set_param_fault t.params) ++ sorts) ≡ []) × (flat_map (chunk_faults t.preds) (t.pre.chunks ++ t.post.chunks) ≡ [])
   parts_none = none_both _ (flat_map (chunk_faults t.preds) (t.pre.chunks ++ t.post.chunks)) proc_none
 
-  params_none : (repeats [] (param_names t.params) ≡ []) × (flat_map set_param_fault t.params ≡ [])
+  pub params_none : (repeats [] (param_names t.params) ≡ []) × (flat_map set_param_fault t.params ≡ [])
   params_none = none_both _ (flat_map set_param_fault t.params) (none_both (repeats [] (param_names t.params) ++ flat_map set_param_fault t.params) sorts parts_none.0).0
+
+  pub sorts_none : sorts ≡ []
+  sorts_none = (none_both (repeats [] (param_names t.params) ++ flat_map set_param_fault t.params) sorts parts_none.0).1
 
   chunk_none : (c : ChunkTree) → Among c (t.pre.chunks ++ t.post.chunks) → chunk_faults t.preds c ≡ []
   chunk_none = none_each (chunk_faults t.preds) (t.pre.chunks ++ t.post.chunks) parts_none.1

@@ -19,9 +19,11 @@ pub mod FormedClauses
 pub mod FormedGoals
 pub mod FormedGuards
 pub mod FormedInstances
+pub mod FormedOnce
 pub mod FormedOwners
 pub mod FormedPreds
 pub mod FormedScope
+pub mod FormedSorts
 pub mod Fronts
 pub mod IntLaws
 pub mod ItemLaws

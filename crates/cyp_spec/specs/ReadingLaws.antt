@@ -1,9 +1,10 @@
 -- Laws of the reading of texts.
 use Rattle.std.specs.Prelude.{Err, IsTrue, List, Ok, Result, ℕ, ◌≡◌}
+use Rattle.cyp_goal.specs.Raw.{IsRaw, is_sorted}
 use Rattle.cyp_heap.specs.Formed.{IsFormed}
 use Rattle.cyp_heap.specs.PredsFormed.{IsFormedPreds}
 use Rattle.cyp_lex.specs.declared.fault.Fault.{Fault}
-use Rattle.cyp_spec.specs.LimitFaults.{is_root_within}
+use Rattle.cyp_spec.specs.LimitFaults.{is_root_within, root_of}
 use Rattle.cyp_grammar.specs.Lexemes.{Lexeme}
 use Rattle.cyp_grammar.specs.Spelling.{Match}
 use Rattle.cyp_spec.specs.Grammar.{text_spelling}
@@ -30,6 +31,14 @@ SomeReading = (bytes : List ℕ) → (r : Result Specification Fault) × IsReadi
 -- a specification that is read has a formed goal, which is within the limits as it is written and in its normal form
 abbrev pub ReadIsFormed : Type 0
 ReadIsFormed = (bytes : List ℕ) (s : Specification) → IsReading bytes (Ok s) → IsFormed s.preds s.goal × IsTrue (is_root_within s)
+
+-- in a goal that is read no set variable stands in the place of an integer or a cardinality, and no other variable in that of a set
+abbrev pub ReadIsSorted : Type 0
+ReadIsSorted = (bytes : List ℕ) (s : Specification) → IsReading bytes (Ok s) → IsTrue (is_sorted (root_of s))
+
+-- a goal that is read is as the law of normal forms asks: besides, no part of a set term stands twice in a literal, and no existential in the pure precondition
+abbrev pub ReadIsRaw : Type 0
+ReadIsRaw = (bytes : List ℕ) (s : Specification) → IsReading bytes (Ok s) → IsRaw (root_of s)
 
 -- the predicates of a specification that is read are formed
 abbrev pub ReadPredsAreFormed : Type 0

@@ -1,4 +1,4 @@
-ghost use Rattle.cyp_spec.specs.ReadingLaws.{OneReading, OneTree, ReadIsFormed, ReadNotRefused, ReadPredsAreFormed, SomeReading};
+ghost use Rattle.cyp_spec.specs.ReadingLaws.{OneReading, OneTree, ReadIsFormed, ReadIsRaw, ReadIsSorted, ReadNotRefused, ReadPredsAreFormed, SomeReading};
 
 /// Law: lexemes spell one tree of a specification at most.
 pub fn lexemes_spell_one_tree()
@@ -20,6 +20,14 @@ pub fn no_text_is_read_and_refused()
 /// written and in its normal form.
 pub fn goal_that_is_read_is_formed()
     ensures { ReadIsFormed }
+{}
+
+/// Law: in a goal that is read each variable has the sort of its place, no part of a set term
+/// stands twice in a literal, and no existential in the pure precondition. So the goal has what is
+/// asked for by the law that the normal form of a normal form is that normal form.
+pub fn goal_that_is_read_is_sorted()
+    ensures sorted { ReadIsSorted }
+    ensures raw { ReadIsRaw }
 {}
 
 /// Law: the predicates of a specification that is read are formed.
