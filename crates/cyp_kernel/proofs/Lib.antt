@@ -1,6 +1,9 @@
+pub mod AppliedSides
 pub mod BoundAlone
 pub mod BoundEquation
 pub mod BoundGrowth
 pub mod ClosedPrograms
 pub mod Examples
 pub mod LowerMeasures
+pub mod SidesAgree
+pub mod TidyMeaning

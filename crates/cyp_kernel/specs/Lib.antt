@@ -4,6 +4,7 @@ pub mod Companions
 pub mod Compile
 pub mod Correct
 pub mod Laws
+pub mod Meaning
 pub mod Naming
 pub mod Narrow
 pub mod Statements
