@@ -2,8 +2,11 @@ pub mod AppliedSides
 pub mod BoundAlone
 pub mod BoundEquation
 pub mod BoundGrowth
+pub mod BySort
 pub mod ClosedPrograms
 pub mod Examples
 pub mod LowerMeasures
 pub mod SidesAgree
+pub mod SolveMeaning
+pub mod SolvedTruth
 pub mod TidyMeaning

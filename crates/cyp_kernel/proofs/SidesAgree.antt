@@ -74,7 +74,7 @@ module _ (s t : Assignment) where
     base_alike None h e = refl
     base_alike (Some v) h e = number v (and_parts (p v) true h).0 (e v (inl refl))
 
-    term_alike : (x : Term) → term_fits p x ≡ true → Each K (term_vars x) → value s x ≡ value t x
+    pub term_alike : (x : Term) → term_fits p x ≡ true → Each K (term_vars x) → value s x ≡ value t x
     term_alike x h e = ap (λ (z : ℤ). z +ℤ x.offset) (base_alike x.base h e)
 
     terms_alike : (xs : List Term) → list_all (term_fits p) xs ≡ true → Each K (flat_map term_vars xs) → SameValues s t xs
