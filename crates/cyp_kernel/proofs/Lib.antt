@@ -6,6 +6,7 @@ pub mod BySort
 pub mod ClosedPrograms
 pub mod Examples
 pub mod LowerMeasures
+pub mod NumberMeaning
 pub mod SidesAgree
 pub mod SolveMeaning
 pub mod SolvedTruth

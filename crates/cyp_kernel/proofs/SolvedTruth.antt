@@ -158,7 +158,7 @@ or_zero true = refl
 or_zero false = refl
 
 -- a variable alone
-alone : (s : Assignment) (a : SetTerm) (v : Var) → a.vars ≡ v ∷ [] → a.elems ≡ [] → SameMembers (set_value s a) (s.members v)
+pub alone : (s : Assignment) (a : SetTerm) (v : Var) → a.vars ≡ v ∷ [] → a.elems ≡ [] → SameMembers (set_value s a) (s.members v)
 alone s a v p q z =
     (λ i. int_in z (set_value s (record { vars = p i; elems = q i })))
     ∙ list_any-append (int_eq z) (s.members v ++ []) []
