@@ -6,6 +6,7 @@ pub mod BySort
 pub mod ClosedPrograms
 pub mod Examples
 pub mod LowerMeasures
+pub mod NormalMeaning
 pub mod NumberMeaning
 pub mod SidesAgree
 pub mod SolveMeaning

@@ -1,0 +1,26 @@
+ghost use Rattle.cyp_kernel.specs.Meaning.{FormedIsReady, NormalKeeps, NumberingKeeps, PruningKeeps, SolvingKeeps, TidyingKeeps};
+
+/// Law: solving, tidying and pruning keep the meaning of a node: each heap of the precondition is one of
+/// the new precondition at the same values, and each heap of the new postcondition one of the old.
+pub fn steps_keep_meaning()
+    ensures solving { SolvingKeeps }
+    ensures tidying { TidyingKeeps }
+    ensures pruning { PruningKeeps }
+{}
+
+/// Law: new numbers of variables keep the meaning of a node, at values that belong to the new names.
+pub fn numbering_keeps_meaning()
+    ensures { NumberingKeeps }
+{}
+
+/// Law: the normal form keeps the meaning of a node, and gives its program variables the values of those
+/// that they stand for.
+pub fn normal_form_keeps_meaning()
+    ensures { NormalKeeps }
+{}
+
+/// Law: the node of a formed goal has what the normal form asks of it, where its variables have the sorts
+/// of their places.
+pub fn formed_goal_is_ready()
+    ensures { FormedIsReady }
+{}
