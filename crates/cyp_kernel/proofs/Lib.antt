@@ -1,4 +1,5 @@
 pub mod AppliedSides
+pub mod AppliedVars
 pub mod BoundAlone
 pub mod BoundEquation
 pub mod BoundGrowth
@@ -7,6 +8,7 @@ pub mod ClosedPrograms
 pub mod Examples
 pub mod LowerMeasures
 pub mod NormalMeaning
+pub mod NormalReady
 pub mod NumberMeaning
 pub mod SidesAgree
 pub mod SolveMeaning

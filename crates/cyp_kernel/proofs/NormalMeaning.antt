@@ -72,10 +72,10 @@ no_card : (o : Option Var) → is_none o ≡ true → list_all of_card (card_var
 no_card None h = refl
 no_card (Some c) h = absurd (false≢true h)
 
-ready_sorts : (n : Node) → IsReady n → HasSorts no_set is_set_var n
+pub ready_sorts : (n : Node) → IsReady n → HasSorts no_set is_set_var n
 ready_sorts n r = has_sorts no_set is_set_var n r.sorted
 
-ready_apart : (n : Node) → IsReady n → IsApart n
+pub ready_apart : (n : Node) → IsReady n → IsApart n
 ready_apart n r =
     let a : Var → Bool = apart n.goal.exist in
     let lits : List Var = lits_vars n.goal.pure_pre in
@@ -97,7 +97,7 @@ solving_keeps n m r e = (solve_meaning n m (ready_apart n r) (ready_sorts n r).p
 -- ---- the whole
 
 -- each existential that pruning leaves stands in the node
-used_left : (n : Node) (v : Var) → Among v (prune n).goal.exist → Among v (node_vars (prune n))
+pub used_left : (n : Node) (v : Var) → Among v (prune n).goal.exist → Among v (node_vars (prune n))
 used_left n v k =
     let m : Node = prune n in
     let parts : EachPart (λ w. Among w (node_vars m)) m = each_part (λ w. Among w (node_vars m)) m (λ w i. i) in

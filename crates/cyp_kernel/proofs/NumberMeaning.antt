@@ -61,7 +61,7 @@ module _ (vs : List Var) where
   abbrev In : Var → Type 0
   In v = Among v vs
 
-  pub new_apart : (v w : Var) → In v → In w → new v ≡ new w → v ≡ w
+  new_apart : (v w : Var) → In v → In w → new v ≡ new w → v ≡ w
   new_apart v w i j e =
       let is : IsRenaming (name_in vs) = IsRenaming-name_in vs in
       (Decides-var_eq v w).0 (sym (is.apart v w) ∙ (Decides-var_eq (name_in vs v) (name_in vs w)).1 (sym (name_in-new vs v i) ∙ e ∙ name_in-new vs w j))
@@ -89,10 +89,10 @@ module _ (vs : List Var) where
 
   -- ---- images
 
-  int_new : (v : Var) → no_set v ≡ true → In v → int_image by.ints v ≡ Some (var_term (new v))
+  pub int_new : (v : Var) → no_set v ≡ true → In v → int_image by.ints v ≡ Some (var_term (new v))
   int_new v h k = int_image_at (λ w. var_term (new w)) (filter no_set vs) v (filter_in no_set v vs k h)
 
-  set_new : (v : Var) → is_set_var v ≡ true → In v → set_image by.sets v ≡ Some (set_var (new v))
+  pub set_new : (v : Var) → is_set_var v ≡ true → In v → set_image by.sets v ≡ Some (set_var (new v))
   set_new v h k = set_image_at (λ w. set_var (new w)) (filter is_set_var vs) v (filter_in is_set_var v vs k h)
 
   module _ (x : Assignment) where
@@ -139,19 +139,20 @@ module _ (vs : List Var) where
   old_members : (s t : Assignment) (v : Var) → In v → (for_old s t).members v ≡ t.members (new v)
   old_members s t v k = cond-true (var_in v vs) (t.members (new v)) (s.members v) (among_in v vs k)
 
-  module _ (exist : List Var) (used : Each In exist) (s t : Assignment) (beside : AgreeBeside (map new exist) (for_new s) t) where
-    new_beside : (v : Var) → In v → var_in v exist ≡ false → var_in (new v) (map new exist) ≡ false
+  module _ (exist : List Var) (used : Each In exist) where
+    pub new_beside : (v : Var) → In v → var_in v exist ≡ false → var_in (new v) (map new exist) ≡ false
     new_beside v k out = false_from_ne_true (var_in (new v) (map new exist)) (λ e.
         let m = map_from new (new v) exist (in_among (new v) (map new exist) e) in
         both_ways (var_in v exist) out (among_in v exist (subst (λ (w : Var). Among w exist) (sym (new_apart v m.0 k (used m.0 m.1) m.2)) m.1)))
 
+  module _ (exist : List Var) (used : Each In exist) (s t : Assignment) (beside : AgreeBeside (map new exist) (for_new s) t) where
     back_beside : AgreeBeside exist s (for_old s t)
     back_beside v out = ⊎_elim named unnamed (cases_Bool (var_in v vs))
       where
         named : var_in v vs ≡ true → AgreeBy v.sort s (for_old s t) v
         named e =
             let k : In v = in_among v vs e in
-            let a = beside (new v) (new_beside v k out) in
+            let a = beside (new v) (new_beside exist used v k out) in
             agree_from v.sort s (for_old s t) v
             (λ h. sym (new_number s v k) ∙ same_number (for_new s) t (new v) h a ∙ sym (old_number s t v k))
             (λ h z. sym (new_members s v k z) ∙ same_members (for_new s) t (new v) h a z ∙ ap (int_in z) (sym (old_members s t v k)))

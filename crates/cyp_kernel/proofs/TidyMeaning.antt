@@ -162,7 +162,7 @@ tidying_keeps n s h ns k =
 
 -- ---- pruning
 
-out_filter : (v : Var) (test : Var → Bool) (xs : List Var) → var_in v xs ≡ false → var_in v (filter test xs) ≡ false
+pub out_filter : (v : Var) (test : Var → Bool) (xs : List Var) → var_in v xs ≡ false → var_in v (filter test xs) ≡ false
 out_filter v test [] h = refl
 out_filter v test (x ∷ xs) h =
     let parts = or_parts (var_eq v x) (var_in v xs) h in

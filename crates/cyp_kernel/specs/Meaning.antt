@@ -76,6 +76,10 @@ NormalKeeps = (n : Node) (r : Renaming) → IsReady n → normal n ≡ Some r �
 abbrev pub NormalIsReady : Type 0
 NormalIsReady = (n : Node) (r : Renaming) → IsReady n → normal n ≡ Some r → IsReady r.node
 
+-- each program variable that is left was one
+abbrev pub OldAreProgram : Type 0
+OldAreProgram = (n : Node) (r : Renaming) → IsTrue (is_sorted n) → normal n ≡ Some r → (v : Var) → IsTrue (var_in v r.old) → IsTrue (var_in v n.goal.program)
+
 -- the node of a formed goal has what is asked, where its variables have the sorts of their places
 abbrev pub FormedIsReady : Type 0
 FormedIsReady = (preds : Preds) (g : Goal) → IsFormed preds g → IsTrue (is_sorted (unlinked preds g)) → IsReady (unlinked preds g)

@@ -1,4 +1,6 @@
-ghost use Rattle.cyp_kernel.specs.Meaning.{FormedIsReady, NormalKeeps, NumberingKeeps, PruningKeeps, SolvingKeeps, TidyingKeeps};
+ghost use Rattle.cyp_kernel.specs.Meaning.{
+    FormedIsReady, NormalIsReady, NormalKeeps, NumberingKeeps, OldAreProgram, PruningKeeps, SolvingKeeps, TidyingKeeps,
+};
 
 /// Law: solving, tidying and pruning keep the meaning of a node: each heap of the precondition is one of
 /// the new precondition at the same values, and each heap of the new postcondition one of the old.
@@ -17,6 +19,13 @@ pub fn numbering_keeps_meaning()
 /// that they stand for.
 pub fn normal_form_keeps_meaning()
     ensures { NormalKeeps }
+{}
+
+/// Law: the normal form of a node has what was asked of the node, and the program variables that it keeps
+/// were the node's.
+pub fn normal_form_is_ready()
+    ensures ready { NormalIsReady }
+    ensures old { OldAreProgram }
 {}
 
 /// Law: the node of a formed goal has what the normal form asks of it, where its variables have the sorts
