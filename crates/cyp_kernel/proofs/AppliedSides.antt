@@ -1,5 +1,5 @@
 -- A side of a goal after a substitution holds where the side holds of the values that the substitution gives its variables.
-use Rattle.std.proofs.Common.{◌≡◌, ◌↔◌, refl, sym, ◌∙◌, ℕ, List, [], ◌∷◌, ◌++◌, map, Option, Some, None, inl}
+use Rattle.std.proofs.Common.{◌≡◌, ◌↔◌, refl, sym, ◌∙◌, ℕ, List, [], ◌∷◌, map, Option, Some, None, inl}
 use Rattle.cyp_heap.proofs.Agreement.{cards_of}
 use Rattle.cyp_heap.proofs.Applied.{apply_chunks_law}
 use Rattle.cyp_heap.specs.Assertions.{CardIs, CardsAre, SideHolds}

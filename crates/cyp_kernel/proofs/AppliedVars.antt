@@ -11,7 +11,7 @@ use Rattle.cyp_heap.specs.declared.chunk.Arg.TheVariants.{Int as IntArg, Set as 
 use Rattle.cyp_heap.specs.declared.chunk.Chunk.{Chunk}
 use Rattle.cyp_heap.specs.declared.chunk.Chunk.TheVariants.{Block, Cell, Inst}
 use Rattle.cyp_term.proofs.Equality.{Decides-term_eq, Decides-var_eq}
-use Rattle.cyp_term.proofs.Lists.{Among, Among-cases, Among-left, Among-right, flat_in, flat_out, map_from}
+use Rattle.cyp_term.proofs.Lists.{Among, Among-cases, Among-left, Among-right, flat_in, flat_out}
 use Rattle.cyp_term.proofs.Repeats.{without_repeats_out}
 use Rattle.cyp_term.specs.Terms.{apply_lit, apply_set, apply_term, apply_var, base_vars, image_or_self, int_image, lit_vars, lits_vars, set_image, set_vars, term_at, term_base, term_eq, term_vars, var_eq}
 use Rattle.cyp_term.specs.declared.lit.Lit.{Lit}

@@ -1,5 +1,5 @@
 -- Assignments that agree at a variable, by its sort.
-use Rattle.std.proofs.Common.{◌≡◌, refl, sym, ◌∙◌, not, true, false}
+use Rattle.std.proofs.Common.{◌≡◌, refl, ◌∙◌, not, true}
 use Rattle.std.proofs.lemmas.Bool.{false≢true}
 use Rattle.cyp_goal.proofs.Renumber.{no_set}
 use Rattle.cyp_kernel.specs.Correct.{AgreeBy}

@@ -1,7 +1,7 @@
 -- The normal form keeps the meaning of a node.
-use Rattle.std.proofs.Common.{◌≡◌, refl, sym, ap, ◌∙◌, Bool, true, not, ◌&&◌, List, [], ◌∷◌, ◌++◌, filter, flat_map, Option, Some, None, is_none, subst, ⊎_elim}
+use Rattle.std.proofs.Common.{◌≡◌, refl, ap, Bool, true, not, List, ◌++◌, flat_map, Option, Some, None, is_none, subst, ⊎_elim}
 use Rattle.std.specs.List.{list_all}
-use Rattle.std.proofs.lemmas.Bool.{and_from, and_parts, both_ways, cases_Bool, false≢true, not-true}
+use Rattle.std.proofs.lemmas.Bool.{and_from, both_ways, cases_Bool, false≢true, not-true}
 use Rattle.std.proofs.lemmas.Option.{cond_some, option_and_then_some}
 use Rattle.cyp_goal.proofs.EachVar.{EachPart, each_part}
 use Rattle.cyp_goal.proofs.Fits.{lit_fits-other}
@@ -23,14 +23,12 @@ use Rattle.cyp_heap.specs.declared.chunk.Chunk.{Chunk}
 use Rattle.cyp_heap.specs.declared.chunk.Chunk.TheVariants.{Block, Cell, Inst}
 use Rattle.cyp_heap.specs.declared.goal.Node.{Node}
 use Rattle.cyp_kernel.proofs.NumberMeaning.{number_meaning}
-use Rattle.cyp_kernel.proofs.SolveMeaning.{IsApart, Solved, keeps_then, of_card, plain_cards, solve_meaning}
+use Rattle.cyp_kernel.proofs.SolveMeaning.{IsApart, keeps_then, of_card, plain_cards, solve_meaning}
 use Rattle.cyp_kernel.proofs.TidyMeaning.{pruning_keeps, tidying_keeps}
 use Rattle.cyp_kernel.specs.Meaning.{FormedIsReady, IsReady, KeepsMeaning, KeepsRenamed, NormalKeeps, SolvingKeeps}
 use Rattle.cyp_term.proofs.Lists.{Among, Among-cases, Among-left, Among-right, each_at, each_from, filter_out, flat_in}
 use Rattle.cyp_term.specs.Terms.{is_set_var, lits_vars, lit_vars, set_vars, term_vars, var_in}
-use Rattle.cyp_term.specs.declared.lit.Lit.{Lit}
 use Rattle.cyp_term.specs.declared.lit.SetTerm.{SetTerm}
-use Rattle.cyp_term.specs.declared.term.Term.{Term}
 use Rattle.cyp_term.specs.declared.term.Var.{Var}
 
 -- ---- a test that each variable of a chunk passes

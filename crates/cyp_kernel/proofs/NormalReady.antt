@@ -1,7 +1,7 @@
 -- The normal form of a node has what was asked of the node.
-use Rattle.std.proofs.Common.{◌≡◌, refl, sym, ap, ◌∙◌, inl, inr, Bool, true, false, not, ◌&&◌, List, [], ◌∷◌, ◌++◌, map, filter, flat_map, IfSome, IsTrue, Option, Some, None, is_none, subst, ⊎_elim}
+use Rattle.std.proofs.Common.{◌≡◌, refl, sym, ap, ◌∙◌, inl, inr, Bool, true, false, not, ◌&&◌, List, [], ◌∷◌, ◌++◌, map, filter, flat_map, IfSome, Option, Some, None, is_none, subst, ⊎_elim}
 use Rattle.std.specs.List.{list_all}
-use Rattle.std.proofs.lemmas.Bool.{and_from, and_parts, both_ways, cases_Bool, cond_both, false≢true, not-true}
+use Rattle.std.proofs.lemmas.Bool.{and_from, and_parts, both_ways, cases_Bool, cond_both, not-true}
 use Rattle.std.proofs.lemmas.Option.{none-some, same_Some}
 use Rattle.cyp_goal.proofs.EachVar.{Each, EachPart, each_part}
 use Rattle.cyp_goal.proofs.Fits.{ImagesFit, chunk_fits-apply, link_fits-apply, lit_fits-at, lits_fit-apply}
@@ -20,7 +20,7 @@ use Rattle.cyp_goal.specs.Raw.{arg_fits, chunk_fits, is_sorted, link_fits, lit_f
 use Rattle.cyp_goal.specs.Tidying.{address}
 use Rattle.cyp_heap.specs.Chunks.{apply_card, apply_chunk, arg_vars, card_vars, chunk_vars, chunks_vars, insts}
 use Rattle.cyp_heap.specs.Formed.{is_card_var}
-use Rattle.cyp_heap.specs.Goals.{apply_link, apply_node, node_vars}
+use Rattle.cyp_heap.specs.Goals.{apply_link, node_vars}
 use Rattle.cyp_heap.specs.declared.chunk.Arg.{Arg}
 use Rattle.cyp_heap.specs.declared.chunk.Arg.TheVariants.{Int as IntArg, Set as SetArg}
 use Rattle.cyp_heap.specs.declared.chunk.Chunk.{Chunk}
@@ -28,14 +28,13 @@ use Rattle.cyp_heap.specs.declared.chunk.Chunk.TheVariants.{Block, Cell, Inst}
 use Rattle.cyp_heap.specs.declared.chunk.Heap.{Heap}
 use Rattle.cyp_heap.specs.declared.chunk.InstOf.{InstOf}
 use Rattle.cyp_heap.specs.declared.goal.Goal.{Goal}
-use Rattle.cyp_heap.specs.declared.goal.Link.{Link}
 use Rattle.cyp_heap.specs.declared.goal.Node.{Node}
 use Rattle.cyp_kernel.proofs.AppliedVars.{Brings, chunks_each, image_base, lits_each}
 use Rattle.cyp_kernel.proofs.NormalMeaning.{Made, made, ready_apart, ready_sorts, used_left}
 use Rattle.cyp_kernel.proofs.NumberMeaning.{int_new, new_beside, set_new}
 use Rattle.cyp_kernel.proofs.SolveMeaning.{IsApart, Solved, solve_meaning}
 use Rattle.cyp_kernel.proofs.TidyMeaning.{out_filter}
-use Rattle.cyp_kernel.specs.Meaning.{IsReady, NormalIsReady, OldAreProgram}
+use Rattle.cyp_kernel.specs.Meaning.{NormalIsReady, OldAreProgram}
 use Rattle.cyp_term.proofs.Lists.{Among, Among-cases, Among-left, each_at, each_from, filter_out, flat_out, map_from}
 use Rattle.cyp_term.specs.Terms.{image_or_self, int_image, is_set_var, lit_vars, lits_vars, set_image, set_var, set_vars, term_vars, var_at, var_in, var_eq, var_term}
 use Rattle.cyp_term.specs.declared.lit.Lit.{Lit}

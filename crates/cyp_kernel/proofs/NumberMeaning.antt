@@ -1,5 +1,5 @@
 -- New numbers of variables keep the meaning of a node: an assignment for the new names, and back.
-use Rattle.std.proofs.Common.{◌≡◌, refl, sym, ap, ◌∙◌, ℕ, inl, inr, Bool, true, false, cond, not, ◌&&◌, List, [], ◌∷◌, map, filter, flat_map, ℤ, pos, ◌+ℤ◌, Option, Some, None, arith, subst, ⊎_elim}
+use Rattle.std.proofs.Common.{◌≡◌, refl, sym, ap, ◌∙◌, inl, inr, Bool, true, false, cond, List, [], ◌∷◌, map, filter, flat_map, ℤ, pos, ◌+ℤ◌, Option, Some, arith, subst, ⊎_elim}
 use Rattle.std.specs.List.{list_all}
 use Rattle.std.proofs.lemmas.Int.{ints}
 use Rattle.std.proofs.lemmas.Bool.{and_parts, both_ways, cases_Bool, cond-false, cond-true, cond_both, false_from_ne_true}
@@ -156,6 +156,7 @@ module _ (vs : List Var) where
             agree_from v.sort s (for_old s t) v
             (λ h. sym (new_number s v k) ∙ same_number (for_new s) t (new v) h a ∙ sym (old_number s t v k))
             (λ h z. sym (new_members s v k z) ∙ same_members (for_new s) t (new v) h a z ∙ ap (int_in z) (sym (old_members s t v k)))
+
         unnamed : var_in v vs ≡ false → AgreeBy v.sort s (for_old s t) v
         unnamed e =
             agree_from v.sort s (for_old s t) v

@@ -1,21 +1,17 @@
 -- To solve an equation for a variable and put the solution in its place keeps the meaning of a node.
-use Rattle.std.proofs.Common.{◌≡◌, refl, sym, ap, ◌∙◌, ℕ, zero, suc, inl, inr, Bool, true, false, cond, not, ◌&&◌, ◌||◌, List, [], ◌∷◌, ◌++◌, map, flat_map, length, ℤ, ◌+ℤ◌, Option, Some, None, subst, ⊎_elim}
-use Rattle.std.specs.Prelude.{is_none}
-use Rattle.std.specs.Option.{option_and_then}
+use Rattle.std.proofs.Common.{◌≡◌, refl, sym, ap, ◌∙◌, ℕ, zero, suc, Bool, true, false, cond, not, ◌||◌, List, [], ◌∷◌, ◌++◌, map, flat_map, length, ℤ, ◌+ℤ◌, Option, Some, None, subst, ⊎_elim}
 use Rattle.std.specs.List.{list_all}
-use Rattle.std.specs.Ordering.{int_eq}
-use Rattle.std.proofs.lemmas.Bool.{and_from, and_parts, both_ways, cond_both, false_from_ne_true, false≢true, not-true, not_from_false}
+use Rattle.std.proofs.lemmas.Bool.{and_from, and_parts, both_ways, false_from_ne_true, not-true}
 use Rattle.std.proofs.lemmas.List.Folds.{list_all-append}
 use Rattle.std.proofs.lemmas.Option.{none-some, option_and_then_some, same_Some}
-use Rattle.cyp_goal.proofs.Fits.{ImagesFit, chunk_fits-apply, lit_fits-apply, lits_fit-apply}
-use Rattle.cyp_goal.proofs.Live.{among_in}
+use Rattle.cyp_goal.proofs.Fits.{ImagesFit, chunk_fits-apply, lits_fit-apply}
 use Rattle.cyp_goal.proofs.Renumber.{no_set}
 use Rattle.cyp_goal.proofs.SolveLeaves.{apart, cond_other, post_at, pre_at}
 use Rattle.cyp_goal.proofs.SolvedLits.{solved_eq-by}
 use Rattle.cyp_goal.specs.Normal.{solve}
 use Rattle.cyp_goal.specs.Raw.{chunk_fits, lit_fits, term_fits}
 use Rattle.cyp_goal.specs.Solving.{bind_int, bind_set, first_solved, is_logical, solve_post, solve_pre, solved_any, solved_eq, substitute, wide_subst, with_post, with_pre}
-use Rattle.cyp_heap.proofs.Agreement.{AgreeOn, cards_of, side_agrees}
+use Rattle.cyp_heap.proofs.Agreement.{cards_of, side_agrees}
 use Rattle.cyp_heap.specs.Chunks.{apply_card, apply_chunk, card_vars, insts}
 use Rattle.cyp_heap.specs.Goals.{apply_node, wide_node}
 use Rattle.cyp_heap.specs.declared.chunk.Chunk.{Chunk}
@@ -29,9 +25,9 @@ use Rattle.cyp_kernel.proofs.SolvedTruth.{First, SolvesInt, SolvesSet, first_of,
 use Rattle.cyp_kernel.specs.Correct.{AgreeBy}
 use Rattle.cyp_kernel.specs.Meaning.{KeepsMeaning}
 use Rattle.cyp_term.proofs.Equality.{Decides-sort_eq, Decides-var_eq}
-use Rattle.cyp_term.proofs.Lists.{Among, each_at, each_from, map_from}
+use Rattle.cyp_term.proofs.Lists.{each_at, each_from, map_from}
 use Rattle.cyp_term.specs.Meaning.{AllTrue, Assignment, SameMembers, Truth, base_value, image_members, image_value, int_in, set_value, under, value}
-use Rattle.cyp_term.specs.Terms.{base_eq, int_image, is_set_var, set_image, sort_eq, term_vars, var_at, var_eq, var_in}
+use Rattle.cyp_term.specs.Terms.{base_eq, int_image, is_set_var, sort_eq, term_vars, var_at, var_eq, var_in}
 use Rattle.cyp_term.specs.declared.lit.Lit.{Lit}
 use Rattle.cyp_term.specs.declared.lit.SetTerm.{SetTerm}
 use Rattle.cyp_term.specs.declared.subst.Subst.{Subst}
@@ -281,9 +277,9 @@ module _ (n m : Node) (by : Subst) (rest : List Lit) (is : IsApart n) where
       let turn : PostTurn n (after b) = record {
         keeps = keep_post n rest i.var b is spares i.passes (int_other i.var i.to) (λ t k. joined (under b t) (i.back (under b t) (int_solved i.var i.to t i.other)) k);
         is = apart_after n b n.goal.pure_pre rest is (record {
-              ints = λ w to p e. absurd (none-some to (sym (unbound i.var i.passes w p (Some i.to) None) ∙ e));
-              sets = λ w to p e. absurd (none-some to e);
-            }) spares is.lits;
+          ints = λ w to p e. absurd (none-some to (sym (unbound i.var i.passes w p (Some i.to) None) ∙ e));
+          sets = λ w to p e. absurd (none-some to e);
+        }) spares is.lits;
       } in
       subst (λ (x : Subst). PostTurn n (after x)) (sym i.binds) turn
 
@@ -294,9 +290,9 @@ module _ (n m : Node) (by : Subst) (rest : List Lit) (is : IsApart n) where
       let turn : PostTurn n (after b) = record {
         keeps = keep_post n rest i.var b is spares i.passes (set_other i.var i.to) (λ t k. joined (under b t) (i.back (under b t) (set_solved i.var i.to t i.other)) k);
         is = apart_after n b n.goal.pure_pre rest is (record {
-              ints = λ w to p e. absurd (none-some to e);
-              sets = λ w to p e. absurd (none-some to (sym (unbound i.var i.passes w p (Some i.to) None) ∙ e));
-            }) spares is.lits;
+          ints = λ w to p e. absurd (none-some to e);
+          sets = λ w to p e. absurd (none-some to (sym (unbound i.var i.passes w p (Some i.to) None) ∙ e));
+        }) spares is.lits;
       } in
       subst (λ (x : Subst). PostTurn n (after x)) (sym i.binds) turn
 

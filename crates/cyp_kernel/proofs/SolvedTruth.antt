@@ -1,6 +1,5 @@
 -- What it tells that an equation is solved for a variable: the variable's value, and the other literals.
 use Rattle.std.proofs.Common.{◌≡◌, refl, sym, ap, ◌∙◌, inl, inr, Bool, true, false, ◌&&◌, ◌||◌, not, List, [], ◌∷◌, ◌++◌, ℤ, ◌+ℤ◌, neg_ℤ, Option, Some, None, arith, subst, ◌⊎◌}
-use Rattle.std.specs.List.{list_any}
 use Rattle.std.specs.Ordering.{int_eq}
 use Rattle.std.proofs.lemmas.Bool.{and_parts, not-true}
 use Rattle.std.proofs.lemmas.Int.{ints}

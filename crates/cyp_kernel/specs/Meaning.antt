@@ -1,5 +1,5 @@
 -- What the normal form of a node keeps of its meaning.
-use Rattle.std.specs.Prelude.{IsTrue, List, Some, is_none, map, not, true, ◌++◌, ◌≡◌, ℕ}
+use Rattle.std.specs.Prelude.{IsTrue, List, Some, is_none, map, not, ◌++◌, ◌≡◌, ℕ}
 use Rattle.std.specs.List.{list_all}
 use Rattle.cyp_goal.specs.Normal.{Renaming, normal, solve, tidy_node}
 use Rattle.cyp_goal.specs.Numbering.{renumber}

@@ -1,5 +1,12 @@
 ghost use Rattle.cyp_kernel.specs.Meaning.{
-    FormedIsReady, NormalIsReady, NormalKeeps, NumberingKeeps, OldAreProgram, PruningKeeps, SolvingKeeps, TidyingKeeps,
+  FormedIsReady,
+  NormalIsReady,
+  NormalKeeps,
+  NumberingKeeps,
+  OldAreProgram,
+  PruningKeeps,
+  SolvingKeeps,
+  TidyingKeeps,
 };
 
 /// Law: solving, tidying and pruning keep the meaning of a node: each heap of the precondition is one of
