@@ -10,7 +10,10 @@ pub mod LowerMeasures
 pub mod NormalMeaning
 pub mod NormalReady
 pub mod NumberMeaning
+pub mod PassedVars
+pub mod PlainCards
 pub mod SidesAgree
 pub mod SolveMeaning
 pub mod SolvedTruth
 pub mod TidyMeaning
+pub mod UnsortedMeaning

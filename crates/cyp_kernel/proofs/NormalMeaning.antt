@@ -1,5 +1,5 @@
 -- The normal form keeps the meaning of a node.
-use Rattle.std.proofs.Common.{◌≡◌, refl, ap, Bool, true, not, List, ◌++◌, flat_map, Option, Some, None, is_none, subst, ⊎_elim}
+use Rattle.std.proofs.Common.{◌≡◌, refl, ap, Bool, true, not, List, ◌++◌, Option, Some, None, is_none, subst, ⊎_elim}
 use Rattle.std.specs.List.{list_all}
 use Rattle.std.proofs.lemmas.Bool.{and_from, both_ways, cases_Bool, false≢true, not-true}
 use Rattle.std.proofs.lemmas.Option.{cond_some, option_and_then_some}
@@ -12,45 +12,21 @@ use Rattle.cyp_goal.proofs.SolveLeaves.{apart}
 use Rattle.cyp_goal.specs.Normal.{Renaming, keep_limits, normal, solve, tidy_node}
 use Rattle.cyp_goal.specs.Numbering.{renumber}
 use Rattle.cyp_goal.specs.Pruning.{prune}
-use Rattle.cyp_goal.specs.Raw.{arg_fits, chunk_fits, lit_fits, set_fits, term_fits}
-use Rattle.cyp_heap.specs.Chunks.{arg_vars, card_vars, chunk_vars, chunks_vars}
+use Rattle.cyp_goal.specs.Raw.{chunk_fits, lit_fits}
+use Rattle.cyp_heap.specs.Chunks.{card_vars, chunk_vars, chunks_vars}
 use Rattle.cyp_heap.specs.Formed.{is_card_var}
 use Rattle.cyp_heap.specs.Goals.{node_vars}
 use Rattle.cyp_heap.specs.Limits.{is_within_limits}
-use Rattle.cyp_heap.specs.declared.chunk.Arg.{Arg}
-use Rattle.cyp_heap.specs.declared.chunk.Arg.TheVariants.{Int as IntArg, Set as SetArg}
-use Rattle.cyp_heap.specs.declared.chunk.Chunk.{Chunk}
-use Rattle.cyp_heap.specs.declared.chunk.Chunk.TheVariants.{Block, Cell, Inst}
 use Rattle.cyp_heap.specs.declared.goal.Node.{Node}
 use Rattle.cyp_kernel.proofs.NumberMeaning.{number_meaning}
-use Rattle.cyp_kernel.proofs.SolveMeaning.{IsApart, keeps_then, of_card, plain_cards, solve_meaning}
+use Rattle.cyp_kernel.proofs.PassedVars.{chunk_passes}
+use Rattle.cyp_kernel.proofs.PlainCards.{of_card, plain_cards}
+use Rattle.cyp_kernel.proofs.SolveMeaning.{IsApart, keeps_then, solve_meaning}
 use Rattle.cyp_kernel.proofs.TidyMeaning.{pruning_keeps, tidying_keeps}
 use Rattle.cyp_kernel.specs.Meaning.{FormedIsReady, IsReady, KeepsMeaning, KeepsRenamed, NormalKeeps, SolvingKeeps}
 use Rattle.cyp_term.proofs.Lists.{Among, Among-cases, Among-left, Among-right, each_at, each_from, filter_out, flat_in}
-use Rattle.cyp_term.specs.Terms.{is_set_var, lits_vars, lit_vars, set_vars, term_vars, var_in}
-use Rattle.cyp_term.specs.declared.lit.SetTerm.{SetTerm}
+use Rattle.cyp_term.specs.Terms.{is_set_var, lits_vars, lit_vars, var_in}
 use Rattle.cyp_term.specs.declared.term.Var.{Var}
-
--- ---- a test that each variable of a chunk passes
-module _ (p : Var → Bool) where
-  set_passes : (u : SetTerm) → ((v : Var) → Among v (set_vars u) → p v ≡ true) → set_fits p p u ≡ true
-  set_passes u h =
-      and_from (list_all p u.vars) (list_all (term_fits p) u.elems) (each_from p u.vars (λ v k. h v (Among-left v u.vars (flat_map term_vars u.elems) k)))
-      (each_from (term_fits p) u.elems (λ t k. each_from p (term_vars t) (λ v m. h v (Among-right v u.vars (flat_map term_vars u.elems) (flat_in term_vars v t u.elems k m)))))
-
-  arg_passes : (a : Arg) → ((v : Var) → Among v (arg_vars a) → p v ≡ true) → arg_fits p p a ≡ true
-  arg_passes (IntArg t) h = each_from p (term_vars t) h
-  arg_passes (SetArg u) h = set_passes u h
-
-  chunk_passes : (c : Chunk) → ((v : Var) → Among v (chunk_vars c) → p v ≡ true) → chunk_fits p p c ≡ true
-  chunk_passes (Inst i) h =
-      and_from (list_all (arg_fits p p) i.args) (list_all p (card_vars i.card))
-      (each_from (arg_fits p p) i.args (λ a k. arg_passes a (λ v m. h v (Among-left v (flat_map arg_vars i.args) (card_vars i.card) (flat_in arg_vars v a i.args k m)))))
-      (each_from p (card_vars i.card) (λ v m. h v (Among-right v (flat_map arg_vars i.args) (card_vars i.card) m)))
-  chunk_passes (Block b) h = each_from p (term_vars b.at) h
-  chunk_passes (Cell c) h =
-      and_from (term_fits p c.at) (term_fits p c.content) (each_from p (term_vars c.at) (λ v k. h v (Among-left v (term_vars c.at) (term_vars c.content) k)))
-      (each_from p (term_vars c.content) (λ v k. h v (Among-right v (term_vars c.at) (term_vars c.content) k)))
 
 -- ---- what is asked
 

@@ -4,7 +4,7 @@ use Rattle.std.specs.List.{list_all}
 use Rattle.std.proofs.lemmas.Bool.{and_from, and_parts, both_ways, cases_Bool, cond_both, not-true}
 use Rattle.std.proofs.lemmas.Option.{none-some, same_Some}
 use Rattle.cyp_goal.proofs.EachVar.{Each, EachPart, each_part}
-use Rattle.cyp_goal.proofs.Fits.{ImagesFit, chunk_fits-apply, link_fits-apply, lit_fits-at, lits_fit-apply}
+use Rattle.cyp_goal.proofs.Fits.{ImagesFit, chunk_fits-apply, link_fits-apply, lits_fit-apply}
 use Rattle.cyp_goal.proofs.LinksCards.{KeepsCards}
 use Rattle.cyp_goal.proofs.LinksNormal.{IsKept, IsKeptWithin, normal_kept}
 use Rattle.cyp_goal.proofs.Live.{among_in, in_among}
@@ -16,13 +16,11 @@ use Rattle.cyp_goal.proofs.TidyLeaves.{address_lit_fits, addresses_fit, pre_each
 use Rattle.cyp_goal.specs.Normal.{Renaming, normal, tidy_node}
 use Rattle.cyp_goal.specs.Numbering.{new_name, numbering, renumber}
 use Rattle.cyp_goal.specs.Pruning.{is_kept, live_vars, prune}
-use Rattle.cyp_goal.specs.Raw.{arg_fits, chunk_fits, is_sorted, link_fits, lit_fits, set_fits, term_fits}
+use Rattle.cyp_goal.specs.Raw.{chunk_fits, is_sorted, link_fits, lit_fits, set_fits, term_fits}
 use Rattle.cyp_goal.specs.Tidying.{address}
-use Rattle.cyp_heap.specs.Chunks.{apply_card, apply_chunk, arg_vars, card_vars, chunk_vars, chunks_vars, insts}
+use Rattle.cyp_heap.specs.Chunks.{apply_card, apply_chunk, chunks_vars, insts}
 use Rattle.cyp_heap.specs.Formed.{is_card_var}
 use Rattle.cyp_heap.specs.Goals.{apply_link, node_vars}
-use Rattle.cyp_heap.specs.declared.chunk.Arg.{Arg}
-use Rattle.cyp_heap.specs.declared.chunk.Arg.TheVariants.{Int as IntArg, Set as SetArg}
 use Rattle.cyp_heap.specs.declared.chunk.Chunk.{Chunk}
 use Rattle.cyp_heap.specs.declared.chunk.Chunk.TheVariants.{Block, Cell, Inst}
 use Rattle.cyp_heap.specs.declared.chunk.Heap.{Heap}
@@ -32,13 +30,12 @@ use Rattle.cyp_heap.specs.declared.goal.Node.{Node}
 use Rattle.cyp_kernel.proofs.AppliedVars.{Brings, chunks_each, image_base, lits_each}
 use Rattle.cyp_kernel.proofs.NormalMeaning.{Made, made, ready_apart, ready_sorts, used_left}
 use Rattle.cyp_kernel.proofs.NumberMeaning.{int_new, new_beside, set_new}
+use Rattle.cyp_kernel.proofs.PassedVars.{chunks_at, lits_at}
 use Rattle.cyp_kernel.proofs.SolveMeaning.{IsApart, Solved, solve_meaning}
 use Rattle.cyp_kernel.proofs.TidyMeaning.{out_filter}
 use Rattle.cyp_kernel.specs.Meaning.{NormalIsReady, OldAreProgram}
-use Rattle.cyp_term.proofs.Lists.{Among, Among-cases, Among-left, each_at, each_from, filter_out, flat_out, map_from}
-use Rattle.cyp_term.specs.Terms.{image_or_self, int_image, is_set_var, lit_vars, lits_vars, set_image, set_var, set_vars, term_vars, var_at, var_in, var_eq, var_term}
-use Rattle.cyp_term.specs.declared.lit.Lit.{Lit}
-use Rattle.cyp_term.specs.declared.lit.Lit.TheVariants.{Same}
+use Rattle.cyp_term.proofs.Lists.{Among, Among-cases, each_at, each_from, filter_out, map_from}
+use Rattle.cyp_term.specs.Terms.{image_or_self, int_image, is_set_var, lits_vars, set_image, set_var, set_vars, var_at, var_in, var_eq, var_term}
 use Rattle.cyp_term.specs.declared.lit.SetTerm.{SetTerm}
 use Rattle.cyp_term.specs.declared.subst.Subst.{Subst}
 use Rattle.cyp_term.specs.declared.term.Term.{Term}
@@ -84,41 +81,6 @@ normal_cards : (n : Node) (r : Renaming) → CardsRight n → normal n ≡ Some 
 normal_cards n r c e =
     let k : IsKeptWithin CardsRight r = subst (λ (o : Option Renaming). IfSome o (IsKeptWithin CardsRight)) e (normal_kept CardsRight cards_right_kept n c) in
     k.fact
-
--- ---- each variable of what passes a test
-module _ (p : Var → Bool) where
-  abbrev Passes : Var → Type 0
-  Passes v = p v ≡ true
-
-  -- of the elements of a list
-  all_at : {A : Type 0} (test : A → Bool) (vars : A → List Var) → ((x : A) → test x ≡ true → Each Passes (vars x)) → (xs : List A) → list_all test xs ≡ true → Each Passes (flat_map vars xs)
-  all_at test vars one xs h v k = let x = flat_out vars v xs k in one x.0 (each_at test x.0 xs h x.1) v x.2
-
-  lits_at : (ls : List Lit) → list_all (lit_fits p p) ls ≡ true → Each Passes (lits_vars ls)
-  lits_at = all_at (lit_fits p p) lit_vars (λ l h v k. lit_fits-at p l h v k)
-
-  set_at : (u : SetTerm) → set_fits p p u ≡ true → Each Passes (set_vars u)
-  set_at u h v k = lit_fits-at p (Same u u) (and_from (set_fits p p u) (set_fits p p u) h h) v (Among-left v (set_vars u) (set_vars u) k)
-
-  term_at : (t : Term) → term_fits p t ≡ true → Each Passes (term_vars t)
-  term_at t h v k = each_at p v (term_vars t) h k
-
-  arg_at : (a : Arg) → arg_fits p p a ≡ true → Each Passes (arg_vars a)
-  arg_at (IntArg t) h = term_at t h
-  arg_at (SetArg u) h = set_at u h
-
-  both_at : (a b : Bool) (us ws : List Var) → (a ≡ true → Each Passes us) → (b ≡ true → Each Passes ws) → (a && b) ≡ true → Each Passes (us ++ ws)
-  both_at a b us ws f g h v k = let both = and_parts a b h in ⊎_elim (f both.0 v) (g both.1 v) (Among-cases v us ws k)
-
-  chunk_at : (c : Chunk) → chunk_fits p p c ≡ true → Each Passes (chunk_vars c)
-  chunk_at (Inst i) =
-      both_at (list_all (arg_fits p p) i.args) (list_all p (card_vars i.card)) (flat_map arg_vars i.args) (card_vars i.card) (all_at (arg_fits p p) arg_vars arg_at i.args)
-      (λ h v k. each_at p v (card_vars i.card) h k)
-  chunk_at (Block b) = term_at b.at
-  chunk_at (Cell c) = both_at (term_fits p c.at) (term_fits p c.content) (term_vars c.at) (term_vars c.content) (term_at c.at) (term_at c.content)
-
-  chunks_at : (cs : List Chunk) → list_all (chunk_fits p p) cs ≡ true → Each Passes (chunks_vars cs)
-  chunks_at = all_at (chunk_fits p p) chunk_vars chunk_at
 
 -- ---- before the numbers
 

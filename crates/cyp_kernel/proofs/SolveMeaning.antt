@@ -1,8 +1,7 @@
 -- To solve an equation for a variable and put the solution in its place keeps the meaning of a node.
 use Rattle.std.proofs.Common.{◌≡◌, refl, sym, ap, ◌∙◌, ℕ, zero, suc, Bool, true, false, cond, not, ◌||◌, List, [], ◌∷◌, ◌++◌, map, flat_map, length, ℤ, ◌+ℤ◌, Option, Some, None, subst, ⊎_elim}
 use Rattle.std.specs.List.{list_all}
-use Rattle.std.proofs.lemmas.Bool.{and_from, and_parts, both_ways, false_from_ne_true, not-true}
-use Rattle.std.proofs.lemmas.List.Folds.{list_all-append}
+use Rattle.std.proofs.lemmas.Bool.{and_parts, both_ways, false_from_ne_true, not-true}
 use Rattle.std.proofs.lemmas.Option.{none-some, option_and_then_some, same_Some}
 use Rattle.cyp_goal.proofs.Fits.{ImagesFit, chunk_fits-apply, lits_fit-apply}
 use Rattle.cyp_goal.proofs.Renumber.{no_set}
@@ -11,15 +10,13 @@ use Rattle.cyp_goal.proofs.SolvedLits.{solved_eq-by}
 use Rattle.cyp_goal.specs.Normal.{solve}
 use Rattle.cyp_goal.specs.Raw.{chunk_fits, lit_fits, term_fits}
 use Rattle.cyp_goal.specs.Solving.{bind_int, bind_set, first_solved, is_logical, solve_post, solve_pre, solved_any, solved_eq, substitute, wide_subst, with_post, with_pre}
-use Rattle.cyp_heap.proofs.Agreement.{cards_of, side_agrees}
-use Rattle.cyp_heap.specs.Chunks.{apply_card, apply_chunk, card_vars, insts}
+use Rattle.cyp_heap.proofs.Agreement.{side_agrees}
+use Rattle.cyp_heap.specs.Chunks.{apply_chunk}
 use Rattle.cyp_heap.specs.Goals.{apply_node, wide_node}
-use Rattle.cyp_heap.specs.declared.chunk.Chunk.{Chunk}
-use Rattle.cyp_heap.specs.declared.chunk.Chunk.TheVariants.{Block, Cell, Inst}
-use Rattle.cyp_heap.specs.declared.chunk.InstOf.{InstOf}
 use Rattle.cyp_heap.specs.declared.goal.Node.{Node}
-use Rattle.cyp_kernel.proofs.AppliedSides.{Stands, side_applied}
+use Rattle.cyp_kernel.proofs.AppliedSides.{side_applied}
 use Rattle.cyp_kernel.proofs.BySort.{agree_then, same_members, same_number}
+use Rattle.cyp_kernel.proofs.PlainCards.{PlainCards, SparesCards, int_spares, plain_stays, set_spares, stands}
 use Rattle.cyp_kernel.proofs.SidesAgree.{agree_anywhere, agree_on, term_alike}
 use Rattle.cyp_kernel.proofs.SolvedTruth.{First, SolvesInt, SolvesSet, first_of, solves_any, solves_eq}
 use Rattle.cyp_kernel.specs.Correct.{AgreeBy}
@@ -27,72 +24,13 @@ use Rattle.cyp_kernel.specs.Meaning.{KeepsMeaning}
 use Rattle.cyp_term.proofs.Equality.{Decides-sort_eq, Decides-var_eq}
 use Rattle.cyp_term.proofs.Lists.{each_at, each_from, map_from}
 use Rattle.cyp_term.specs.Meaning.{AllTrue, Assignment, SameMembers, Truth, base_value, image_members, image_value, int_in, set_value, under, value}
-use Rattle.cyp_term.specs.Terms.{base_eq, int_image, is_set_var, sort_eq, term_vars, var_at, var_eq, var_in}
+use Rattle.cyp_term.specs.Terms.{base_eq, is_set_var, sort_eq, term_vars, var_eq, var_in}
 use Rattle.cyp_term.specs.declared.lit.Lit.{Lit}
 use Rattle.cyp_term.specs.declared.lit.SetTerm.{SetTerm}
 use Rattle.cyp_term.specs.declared.subst.Subst.{Subst}
-use Rattle.cyp_term.specs.declared.term.Sort.TheVariants.{Card, Int, Set}
+use Rattle.cyp_term.specs.declared.term.Sort.TheVariants.{Int, Set}
 use Rattle.cyp_term.specs.declared.term.Term.{Term}
 use Rattle.cyp_term.specs.declared.term.Var.{Var}
-
--- ---- cardinalities
-
-abbrev pub of_card : Var → Bool
-of_card v = sort_eq v.sort Card
-
--- the cardinalities of the instances are variables of sort Card
-abbrev pub PlainCards : List Chunk → Type 0
-PlainCards cs = list_all of_card (cards_of cs) ≡ true
-
--- no variable of sort Card is bound
-abbrev pub SparesCards : Subst → Type 0
-SparesCards by = (c : Var) → of_card c ≡ true → int_image by.ints c ≡ None
-
--- where the test of a cardinality tells that it is one
-pub plain_cards : (test : Option Var → Bool) → ((o : Option Var) → test o ≡ true → list_all of_card (card_vars o) ≡ true)
-    → (cs : List Chunk) → list_all (λ (i : InstOf). test i.card) (insts cs) ≡ true → PlainCards cs
-plain_cards test tells [] h = refl
-plain_cards test tells (Inst i ∷ cs) h =
-    let both = and_parts (test i.card) (list_all (λ (j : InstOf). test j.card) (insts cs)) h in
-    list_all-append of_card (card_vars i.card) (cards_of cs)
-    ∙ and_from (list_all of_card (card_vars i.card)) (list_all of_card (cards_of cs)) (tells i.card both.0) (plain_cards test tells cs both.1)
-plain_cards test tells (Block b ∷ cs) h = plain_cards test tells cs h
-plain_cards test tells (Cell c ∷ cs) h = plain_cards test tells cs h
-
-module _ (by : Subst) (spares : SparesCards by) where
-  card_stays : (o : Option Var) → list_all of_card (card_vars o) ≡ true → card_vars (apply_card by o) ≡ card_vars o
-  card_stays None h = refl
-  card_stays (Some c) h = ap (λ (o : Option Term). var_at c o ∷ []) (spares c (and_parts (of_card c) true h).0)
-
-  cards_stay : (cs : List Chunk) → PlainCards cs → cards_of (map (apply_chunk by) cs) ≡ cards_of cs
-  cards_stay [] h = refl
-  cards_stay (Inst i ∷ cs) h =
-      let both = and_parts (list_all of_card (card_vars i.card)) (list_all of_card (cards_of cs)) (sym (list_all-append of_card (card_vars i.card) (cards_of cs)) ∙ h) in
-      let one = card_stays i.card both.0 in
-      let more = cards_stay cs both.1 in
-      λ k. one k ++ more k
-  cards_stay (Block b ∷ cs) h = cards_stay cs h
-  cards_stay (Cell c ∷ cs) h = cards_stay cs h
-
-  plain_stays : (cs : List Chunk) → PlainCards cs → PlainCards (map (apply_chunk by) cs)
-  plain_stays cs h = ap (list_all of_card) (cards_stay cs h) ∙ h
-
-  stands : (u : Assignment) (cs : List Chunk) → PlainCards cs → Stands by u (cards_of cs)
-  stands u cs h c k =
-      let e = spares c (each_at of_card c (cards_of cs) h k) in
-      ap (image_value u c) e ∙ sym (ap (λ (o : Option Term). u.number (var_at c o)) e)
-
-Int≢Card : Int ≡ Card → ⊥
-Int≢Card e = cc
-
-int_spares : (v : Var) (to : Term) → sort_eq v.sort Int ≡ true → SparesCards (bind_int v to)
-int_spares v to h c k =
-    ap (λ (b : Bool). cond b (Some to) None)
-    (false_from_ne_true (var_eq v c) (λ e.
-    Int≢Card (sym ((Decides-sort_eq v.sort Int).0 h) ∙ ap (λ (x : Var). x.sort) ((Decides-var_eq v c).0 e) ∙ (Decides-sort_eq c.sort Card).0 k)))
-
-set_spares : (v : Var) (u : SetTerm) → SparesCards (bind_set v u)
-set_spares v u c k = refl
 
 -- ---- what a turn needs of a node and keeps
 

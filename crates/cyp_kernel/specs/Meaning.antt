@@ -83,3 +83,7 @@ OldAreProgram = (n : Node) (r : Renaming) → IsTrue (is_sorted n) → normal n 
 -- the node of a formed goal has what is asked, where its variables have the sorts of their places
 abbrev pub FormedIsReady : Type 0
 FormedIsReady = (preds : Preds) (g : Goal) → IsFormed preds g → IsTrue (is_sorted (unlinked preds g)) → IsReady (unlinked preds g)
+
+-- without the sorts of places solving may lose the meaning of the node of a formed goal
+abbrev pub SortsAreNeeded : Type 0
+SortsAreNeeded = (preds : Preds) × (g : Goal) × (m : Node) × IsFormed preds g × (solve (unlinked preds g) ≡ Some m) × ¬ KeepsMeaning (unlinked preds g) m

@@ -10,5 +10,5 @@ pub use laws::{
 };
 pub use meaning::{
     formed_goal_is_ready, normal_form_is_ready, normal_form_keeps_meaning, numbering_keeps_meaning,
-    steps_keep_meaning,
+    sorts_are_needed, steps_keep_meaning,
 };

@@ -6,6 +6,7 @@ ghost use Rattle.cyp_kernel.specs.Meaning.{
   OldAreProgram,
   PruningKeeps,
   SolvingKeeps,
+  SortsAreNeeded,
   TidyingKeeps,
 };
 
@@ -39,4 +40,9 @@ pub fn normal_form_is_ready()
 /// of their places.
 pub fn formed_goal_is_ready()
     ensures { FormedIsReady }
+{}
+
+/// Law: without the sorts of places solving may lose the meaning, even of the node of a formed goal.
+pub fn sorts_are_needed()
+    ensures { SortsAreNeeded }
 {}
