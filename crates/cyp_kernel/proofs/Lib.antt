@@ -1,3 +1,4 @@
+pub mod AgreeVars
 pub mod BoundAlone
 pub mod BoundEquation
 pub mod BoundGrowth
