@@ -4,4 +4,8 @@ pub mod BoundEquation
 pub mod BoundGrowth
 pub mod ClosedPrograms
 pub mod Examples
+pub mod ForgetVars
+pub mod GoalFacts
+pub mod HeapParts
 pub mod LowerMeasures
+pub mod OldVars
