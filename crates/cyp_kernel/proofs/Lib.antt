@@ -1,4 +1,6 @@
 pub mod AgreeVars
+pub mod Allowed
+pub mod BodyRuns
 pub mod BoundAlone
 pub mod BoundEquation
 pub mod BoundGrowth
@@ -8,4 +10,6 @@ pub mod ForgetVars
 pub mod GoalFacts
 pub mod HeapParts
 pub mod LowerMeasures
+pub mod NamedValues
 pub mod OldVars
+pub mod SteadyParts
