@@ -8,8 +8,15 @@ pub mod ClosedPrograms
 pub mod Examples
 pub mod ForgetVars
 pub mod GoalFacts
+pub mod HeapCells
 pub mod HeapParts
 pub mod LowerMeasures
 pub mod NamedValues
+pub mod NewNumber
 pub mod OldVars
+pub mod RuleEmp
+pub mod RuleInconsistent
+pub mod RulePick
+pub mod RuleRead
+pub mod RuleWrite
 pub mod SteadyParts

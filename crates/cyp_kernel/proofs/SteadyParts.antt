@@ -1,10 +1,11 @@
 -- What is known of the parts of a steady node.
-use Rattle.std.proofs.Common.{◌≡◌, sym, ◌++◌, ◌&&◌, false, not, true, IfSome, Some, ℕ, subst, slice_get, Option}
+use Rattle.std.proofs.Common.{◌≡◌, sym, inl, inr, [], ◌∷◌, List, ◌++◌, ◌&&◌, zero, suc, false, not, true, IfSome, Some, ℕ, subst, slice_get, Option}
 use Rattle.std.specs.List.{list_all}
 use Rattle.std.proofs.lemmas.Bool.{and_parts, false_from_ne_true, false≢true, not-true, both_ways}
+use Rattle.std.proofs.lemmas.Option.{none-some, same_Some}
 use Rattle.cyp_goal.proofs.LinksFit.{FitsPost, FitsPre, sides_fit}
 use Rattle.cyp_goal.specs.Raw.{goal_fits, link_fits}
-use Rattle.cyp_heap.specs.Chunks.{chunks_vars}
+use Rattle.cyp_heap.specs.Chunks.{chunk_vars, chunks_vars}
 use Rattle.cyp_heap.specs.declared.chunk.Chunk.{Chunk}
 use Rattle.cyp_heap.specs.declared.goal.Goal.{Goal}
 use Rattle.cyp_heap.specs.declared.goal.Node.{Node}
@@ -12,9 +13,21 @@ use Rattle.cyp_kernel.proofs.AgreeVars.{chunk_sorted, is_number_var, lit_sorted}
 use Rattle.cyp_kernel.proofs.ForgetVars.{among_from_in, in_from_among}
 use Rattle.cyp_kernel.specs.Steady.{IsSteady}
 use Rattle.cyp_step.proofs.ChunkLists.{Every-slice_get}
-use Rattle.cyp_term.proofs.Lists.{Among, Among-right, each_at}
+use Rattle.cyp_term.proofs.Lists.{Among, Among-right, each_at, flat_in}
 use Rattle.cyp_term.specs.Terms.{is_set_var, lits_vars, var_in}
 use Rattle.cyp_term.specs.declared.term.Var.{Var}
+
+pub slice_get-among : {A : Type 0} (xs : List A) (i : ℕ) (x : A) → slice_get xs i ≡ Some x → Among x xs
+slice_get-among [] i x e = absurd (none-some x e)
+slice_get-among (y ∷ xs) zero x e = inl (sym (same_Some y x e))
+slice_get-among (y ∷ xs) (suc i) x e = inr (slice_get-among xs i x e)
+
+-- the variables of a chunk are among those of the chunks
+pub chunk_vars_among : (cs : List Chunk) (i : ℕ) (c : Chunk) → slice_get cs i ≡ Some c → (v : Var) → Among v (chunk_vars c) → Among v (chunks_vars cs)
+chunk_vars_among cs i c e v k = flat_in chunk_vars v c cs (slice_get-among cs i c e) k
+
+pub chunk_sorted_at : (cs : List Chunk) (i : ℕ) (c : Chunk) → slice_get cs i ≡ Some c → list_all chunk_sorted cs ≡ true → chunk_sorted c ≡ true
+chunk_sorted_at cs i c e h = each_at chunk_sorted c cs h (slice_get-among cs i c e)
 
 pub record SortedGoal (g : Goal) : Type 0 where
   pub pure_pre : list_all lit_sorted g.pure_pre ≡ true
