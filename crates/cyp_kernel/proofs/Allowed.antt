@@ -1,7 +1,7 @@
 -- What an allowed rule tells: each of its tests passed, and the premises are these.
-use Rattle.std.proofs.Common.{◌≡◌, refl, Bool, true, false, List, [], ◌∷◌, length, ◌==◌, Option, Some, None, suc, ℕ}
+use Rattle.std.proofs.Common.{◌≡◌, refl, Bool, true, false, List, [], ◌∷◌, length, ◌==◌, Option, Some, None, option_map, suc, ℕ}
 use Rattle.std.proofs.lemmas.Bool.{eqb-true}
-use Rattle.std.proofs.lemmas.Option.{none-some}
+use Rattle.std.proofs.lemmas.Option.{none-some, same_Some}
 use Rattle.cyp_heap.specs.declared.goal.Node.{Node}
 use Rattle.cyp_step.specs.Changes.{Raws, where_true}
 
@@ -27,3 +27,7 @@ empty_list (x ∷ xs) e = absurd (no_length (length xs) (eqb-true (length (x ∷
   where
     no_length : (n : ℕ) → suc n ≡ 0 → ⊥
     no_length n p = cc
+
+pub mapped_some : {A B : Type 0} (f : A → B) (o : Option A) (r : B) → option_map f o ≡ Some r → (x : A) × (o ≡ Some x) × (f x ≡ r)
+mapped_some f None r e = absurd (none-some r e)
+mapped_some f (Some x) r e = (x, refl, same_Some (f x) r e)

@@ -1,4 +1,5 @@
 use Rattle.cyp_kernel.proofs.RuleEmp.{by_emp}
+use Rattle.cyp_kernel.proofs.RuleFrame.{by_frame}
 use Rattle.cyp_kernel.proofs.RuleInconsistent.{by_inconsistent}
 use Rattle.cyp_kernel.proofs.RulePick.{by_pick}
 use Rattle.cyp_kernel.proofs.RuleRead.{by_read}
@@ -13,6 +14,9 @@ returns-clause-emp c = by_emp
 
 pub returns-clause-read : goal.returns-clause-read
 returns-clause-read c = by_read
+
+pub returns-clause-frame : goal.returns-clause-frame
+returns-clause-frame c = by_frame
 
 pub returns-clause-write : goal.returns-clause-write
 returns-clause-write c = by_write
