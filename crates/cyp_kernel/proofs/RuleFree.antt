@@ -79,11 +79,14 @@ by_free i ps n ms bs names procs next k steady formed naming is callees all s h 
     let one : get out.0.blocks z ≡ Some b.size = ap (λ (m : FinMap int_cmp ℕ). get m z) out.4.2 ∙ get_single z b.size in
     (union_left h.blocks out.0.blocks rest.blocks out.3.1 z (some_there (get out.0.blocks z) b.size one)).1 ∙ one in
     let addresses_are : map (value s) (block_cells b.at b.size) ≡ addresses z b.size = addresses_of s b.at b.size in
-    let all_there : has_all h.cells (addresses z b.size) ≡ true = (λ j. has_all (same_cells j) (addresses_are (~ j))) ∙ cells.there in
+    let addresses_back = sym addresses_are in
+    let cells_back = sym same_cells in
+    let blocks_back = sym (remove_single h.blocks rest.blocks z b.size single) in
+    let all_there : has_all h.cells (addresses z b.size) ≡ true = (λ j. has_all (same_cells j) (addresses_back j)) ∙ cells.there in
     let after : SideHolds n.preds s (n.goal.pure_pre ++ []) w.left (freed h z b.size) cells.heights = (
       true_join s n.goal.pure_pre [] pre.0 tt,
       subst (λ (a : Store). ChunksHold inst s w.left a cells.heights)
-          (λ j. record { cells = remove_all (same_cells (~ j)) (addresses_are j); blocks = remove_single h.blocks rest.blocks z b.size single (~ j) }) cells.holds,
+          (λ j. record { cells = remove_all (cells_back j) (addresses_are j); blocks = blocks_back j }) cells.holds,
       cells.cards,
     ) in
     go (expr_of names (pre_cell_at n i)) z b.size at there all_there
