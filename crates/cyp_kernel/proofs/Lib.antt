@@ -4,11 +4,14 @@ pub mod BodyRuns
 pub mod BoundAlone
 pub mod BoundEquation
 pub mod BoundGrowth
+pub mod ChunkOrder
 pub mod ClosedPrograms
 pub mod Examples
+pub mod Folded
 pub mod ForgetVars
 pub mod FramePairs
 pub mod GoalFacts
+pub mod HeapAdded
 pub mod HeapCells
 pub mod HeapParts
 pub mod HeapRemoved
@@ -16,6 +19,7 @@ pub mod LowerMeasures
 pub mod NamedValues
 pub mod NewNumber
 pub mod OldVars
+pub mod RuleAlloc
 pub mod RuleEmp
 pub mod RuleFrame
 pub mod RuleFree
@@ -24,3 +28,4 @@ pub mod RulePick
 pub mod RuleRead
 pub mod RuleWrite
 pub mod SteadyParts
+pub mod UnfoldParams

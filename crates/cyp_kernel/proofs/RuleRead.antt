@@ -40,6 +40,7 @@ use Rattle.cyp_term.proofs.Lists.{Among-right}
 use Rattle.cyp_term.specs.Meaning.{Assignment, value}
 use Rattle.cyp_term.specs.Terms.{term_vars, var_term}
 use Rattle.cyp_term.specs.declared.lit.Lit.TheVariants.{Eq}
+use Rattle.cyp_term.specs.declared.term.Sort.TheVariants.{Int}
 use Rattle.cyp_term.specs.declared.term.Var.{Var}
 
 abbrev read_node : Node → ℕ → CellAt → Node
@@ -68,7 +69,7 @@ by_read i ps n ms bs names procs next k steady formed naming is callees all s h 
     let y : Var = new_int n in
     let z : ℤ = value s c.content in
     let u : Assignment = put_number s y z in
-    let parts : EachPart (AgreeAt s u) n = put_new n s z in
+    let parts : EachPart (AgreeAt s u) n = put_new n s (z ∷ []) in
     let sorted = sorted_goal n steady in
     let premise = one_premise ps (names ++ (y, next) ∷ []) k (read_node n i c) bs (subst (λ (xs : List Node). AllMeet ps (names ++ (y, next) ∷ []) k xs bs) w.3 all) in
     let at : expr_value vs (expr_of names (pre_cell_at n i)) ≡ value s c.at =
@@ -86,7 +87,7 @@ by_read i ps n ms bs names procs next k steady formed naming is callees all s h 
     ) in
     let old = old_parts n in
     let new_names =
-    named_with_new names vs s u n.goal.program y next naming (new_out n n.goal.program old.program) named (λ v e. put_kept n s z v (old.program v (among_from_in v n.goal.program e))) in
+    named_with_new names vs s u n.goal.program y next naming (new_out n n.goal.program old.program) named (λ v e. put_kept n Int s (z ∷ []) v (old.program v (among_from_in v n.goal.program e))) in
     go (expr_of names (pre_cell_at n i)) z there (u.number y) (put_here s y z)
     (λ j x l q. same_post n.preds (read_node n i c).goal n.goal u s x (met_by_others n.preds n.goal s u x.store sorted.pure_post sorted.post parts.pure_post parts.post)
     (premise u h ns ((next, u.number y) ∷ vs) after new_names j x l q)) m t le r

@@ -1,5 +1,5 @@
 ghost use Rattle.cyp_kernel.specs.RuleLaws.{RuleLaw};
-ghost use Rattle.cyp_step.specs.declared.rule.Rule.TheVariants.{ByEmp, ByFrame, ByInconsistent, ByPick, ByRead, ByWrite};
+ghost use Rattle.cyp_step.specs.declared.rule.Rule.TheVariants.{ByAlloc, ByEmp, ByFrame, ByFree, ByInconsistent, ByPick, ByRead, ByWrite};
 ghost use Rattle.cyp_term.specs.declared.term.Var.{Var};
 ghost use Rattle.std.specs.Prelude.{ℕ};
 
@@ -11,5 +11,7 @@ pub fn flat_rules_are_sound()
     ensures read { (i : ℕ) → RuleLaw (ByRead i) }
     ensures frame { (i : ℕ) → RuleLaw (ByFrame i) }
     ensures write { (i : ℕ) → RuleLaw (ByWrite i) }
+    ensures free { (i : ℕ) → RuleLaw (ByFree i) }
+    ensures alloc { RuleLaw ByAlloc }
     ensures pick { (v : Var) → RuleLaw (ByPick v) }
 {}
