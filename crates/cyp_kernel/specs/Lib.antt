@@ -5,6 +5,9 @@ pub mod Compile
 pub mod Correct
 pub mod Laws
 pub mod Meaning
+pub mod Meets
 pub mod Naming
 pub mod Narrow
+pub mod RuleLaws
 pub mod Statements
+pub mod Steady

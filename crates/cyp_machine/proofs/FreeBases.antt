@@ -1,11 +1,12 @@
 -- Some base is free, and so there is a least one.
-use Rattle.std.proofs.Common.{[], ◌&&◌, ◌+◌, ◌+ℤ◌, ◌<ℤ◌, Bool, List, None, Option, Some, ap, arith, cond, false, int_cmp, int_eq, is_none, max, nat_abs, negsuc, pos, refl, replicate, suc, sym, true, zero, ℕ, ℤ, ◌∙◌, ◌∷◌, ◌≡◌, ◌≤◌, ◌≤ℤ◌}
+use Rattle.std.proofs.Common.{[], ◌&&◌, ◌+◌, ◌+ℤ◌, ◌<ℤ◌, Bool, List, None, Some, ap, arith, cond, false, int_cmp, int_eq, is_none, max, nat_abs, negsuc, pos, refl, replicate, suc, sym, true, zero, ℕ, ℤ, ◌∙◌, ◌∷◌, ◌≡◌, ◌≤◌, ◌≤ℤ◌}
 use Rattle.std.proofs.lemmas.Bool.{and_from, and_parts, false≢true}
 use Rattle.std.proofs.lemmas.Bool.Decides.{Decides-int_eq}
 use Rattle.std.proofs.lemmas.Int.{ints}
 use Rattle.std.specs.FinMap.{FinMap, entries, find, get, get-entries}
 use Rattle.std.specs.List.{list_all}
 use Rattle.cyp_heap.specs.Stores.{Store}
+use Rattle.cyp_machine.proofs.Options.{none_of}
 use Rattle.cyp_machine.specs.Steps.{IsFree, addresses, has_none}
 
 -- ---- no key is above all sizes of keys
@@ -40,10 +41,6 @@ no_cells m b (suc n) z s l =
 
 abbrev is_free : Store → ℕ → ℕ → Bool
 is_free h n j = has_none h.cells (addresses (pos (suc j)) n) && is_none (get h.blocks (pos (suc j)))
-
-none_of : {A : Type 0} (o : Option A) → is_none o ≡ true → o ≡ None
-none_of None h = refl
-none_of (Some x) h = absurd (false≢true h)
 
 free_of : (h : Store) (n j : ℕ) → is_free h n j ≡ true → IsFree h (pos (suc j)) n
 free_of h n j e =

@@ -8,13 +8,13 @@ use Rattle.std.specs.FinMap.{get}
 use Rattle.std.specs.List.{list_all}
 use Rattle.cyp_heap.specs.Stores.{Store}
 use Rattle.cyp_machine.proofs.FreeBases.{least_free, zeros_zero}
-use Rattle.cyp_machine.proofs.Options.{there, value_of}
+use Rattle.cyp_machine.proofs.Options.{there, value_of, whole_parts}
 use Rattle.cyp_machine.specs.Closed.{IsClosed, calls_below, statement_calls_below}
 use Rattle.cyp_machine.specs.Faults.{body_fault, frames_fault, is_whole, statement_fault}
 use Rattle.cyp_machine.specs.Laws.{LeastIsAStep, RunGoesOn}
 use Rattle.cyp_machine.specs.Runs.{Run}
 use Rattle.cyp_machine.specs.States.{Frame, State, entry_body, frames_ended, start}
-use Rattle.cyp_machine.specs.Steps.{Becomes, BodyStep, FramesStep, StatementStep, addresses, any_pick, followed_by, has_all, least_pick}
+use Rattle.cyp_machine.specs.Steps.{Becomes, BodyStep, FramesStep, StatementStep, any_pick, followed_by, least_pick}
 use Rattle.cyp_machine.specs.Values.{Values, expr_value, params_from, test_value}
 use Rattle.cyp_machine.specs.declared.cause.Cause.TheVariants.{FreeMissing, ReadMissing, WriteMissing}
 use Rattle.cyp_prog.specs.Programs.{Body, Choosing, End, Failing, Giving, Invoking, Loading, Procedure, Statement, Storing, Taking, Then}
@@ -99,10 +99,6 @@ module _ (ps : List Procedure) (closed : IsClosed ps) where
   start_ready p args h = ready_entry (length ps) ps (slice_get ps p) (params_from 1 args) (λ q e. calls-called (length ps) ps p q closed e)
 
 -- ---- what is ready goes on
-
-whole_parts : (h : Store) (a : ℤ) (o : Option ℕ) → is_whole h a o ≡ true → (n : ℕ) × (o ≡ Some n) × (has_all h.cells (addresses a n) ≡ true)
-whole_parts h a None w = absurd (false≢true w)
-whole_parts h a (Some n) w = (n, refl, w)
 
 called : (ps : List Procedure) (p : ℕ) → nat_lt p (length ps) ≡ true → (q : Procedure) × (slice_get ps p ≡ Some q)
 called ps p l = elim ((slice_get_cases ps p).1) [

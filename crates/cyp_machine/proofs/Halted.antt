@@ -1,26 +1,18 @@
 -- A state that has ended, or whose next step faults, has no next step.
-use Rattle.std.proofs.Common.{[], Bool, IsSome, List, None, Option, Some, ap, false, inl, inr, is_some, refl, sym, true, ℕ, ℤ, ◌∙◌, ◌∷◌, ◌≡◌}
+use Rattle.std.proofs.Common.{[], IsSome, List, None, Option, Some, false, inl, inr, is_some, refl, sym, ℤ, ◌∙◌, ◌∷◌, ◌≡◌}
 use Rattle.std.proofs.lemmas.Bool.{false≢true}
 use Rattle.std.specs.FinMap.{get}
 use Rattle.cyp_heap.specs.Stores.{Store}
-use Rattle.cyp_machine.proofs.Options.{some_there}
-use Rattle.cyp_machine.specs.Faults.{body_fault, frames_fault, is_whole, statement_fault, unless_there}
+use Rattle.cyp_machine.proofs.Options.{no_fault, some_there, whole_from}
+use Rattle.cyp_machine.specs.Faults.{body_fault, frames_fault, is_whole, statement_fault}
 use Rattle.cyp_machine.specs.Laws.{HaltedHasNoStep}
 use Rattle.cyp_machine.specs.States.{Frame, State, frames_ended}
-use Rattle.cyp_machine.specs.Steps.{BodyStep, FramesStep, StatementStep, addresses, any_pick, has_all}
+use Rattle.cyp_machine.specs.Steps.{BodyStep, FramesStep, StatementStep, any_pick}
 use Rattle.cyp_machine.specs.Values.{Values, expr_value}
-use Rattle.cyp_machine.specs.declared.cause.Cause.{Cause}
 use Rattle.cyp_machine.specs.declared.cause.Cause.TheVariants.{FreeMissing, ReadMissing, WriteMissing}
 use Rattle.cyp_prog.specs.Programs.{Body, Choosing, End, Failing, Giving, Invoking, Loading, Procedure, Statement, Storing, Taking, Then}
 
 -- ---- a step has no fault
-
-no_fault : (b : Bool) (c : Cause) → b ≡ true → unless_there b c ≡ None
-no_fault true c h = refl
-no_fault false c h = absurd (false≢true h)
-
-whole_from : (h : Store) (a : ℤ) (o : Option ℕ) (n : ℕ) → o ≡ Some n → has_all h.cells (addresses a n) ≡ true → is_whole h a o ≡ true
-whole_from h a o n e w = ap (is_whole h a) e ∙ w
 
 module _ (ps : List Procedure) where
   statement_steps : (s : Statement) (h : Store) (vs : Values) (rest : Body) (below : List Frame) (t : State) → StatementStep any_pick ps s h vs rest below t → statement_fault h vs s ≡ None

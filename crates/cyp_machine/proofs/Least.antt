@@ -1,19 +1,17 @@
 -- With the least allocation a state has one next step at most.
-use Rattle.std.proofs.Common.{[], List, Option, Some, ap, arith, int_eq, length, map, pos, refl, replicate, slice_get, sym, true, ℕ, ℤ, ◌∙◌, ◌∷◌, ◌≡◌, ◌≤ℤ◌}
+use Rattle.std.proofs.Common.{[], List, ap, arith, int_eq, length, map, pos, refl, replicate, slice_get, sym, true, ℕ, ℤ, ◌∙◌, ◌∷◌, ◌≡◌, ◌≤ℤ◌}
 use Rattle.std.proofs.lemmas.Bool.{and_parts}
 use Rattle.std.proofs.lemmas.Bool.Decides.{Decides-int_eq}
 use Rattle.std.proofs.lemmas.Int.{ints}
 use Rattle.std.specs.FinMap.{get, insert, remove}
 use Rattle.std.specs.List.{list_all}
 use Rattle.cyp_heap.specs.Stores.{Store}
+use Rattle.cyp_machine.proofs.Options.{same_some}
 use Rattle.cyp_machine.specs.Laws.{LeastIsOne}
 use Rattle.cyp_machine.specs.States.{Frame, State}
 use Rattle.cyp_machine.specs.Steps.{BodyStep, FramesStep, StatementStep, addresses, insert_all, least_pick, remove_all}
 use Rattle.cyp_machine.specs.Values.{Values, expr_value, params_from}
 use Rattle.cyp_prog.specs.Programs.{Body, Choosing, End, Failing, Giving, Invoking, Loading, Procedure, Statement, Storing, Taking, Then}
-
-same_some : {A : Type 0} (o : Option A) (x y : A) → o ≡ Some x → o ≡ Some y → x ≡ y
-same_some o x y p q = cc
 
 all_zero : (zs : List ℤ) → list_all (int_eq (pos 0)) zs ≡ true → zs ≡ replicate (length zs) (pos 0)
 all_zero [] h = refl

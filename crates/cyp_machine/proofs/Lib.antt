@@ -1,9 +1,17 @@
+pub mod Calls
+pub mod CellUnions
+pub mod Effects
 pub mod Examples
+pub mod Followed
+pub mod FramedRuns
+pub mod FramedSteps
 pub mod FreeBases
 pub mod Going
 pub mod Halted
+pub mod InnerRuns
 pub mod InputExact
 pub mod InputExamples
 pub mod Inputs
+pub mod Joined
 pub mod Least
 pub mod Options

@@ -1,6 +1,8 @@
 pub mod Closed
 pub mod Faults
+pub mod Framing
 pub mod Laws
+pub mod Parts
 pub mod RunInput
 pub mod RunInputLaws
 pub mod Runs
