@@ -4,8 +4,9 @@ use Rattle.std.specs.List.{list_all}
 use Rattle.std.proofs.lemmas.Bool.{and_parts}
 use Rattle.cyp_goal.proofs.EachVar.{Each, first, second}
 use Rattle.cyp_goal.proofs.Fits.{set_parts}
-use Rattle.cyp_goal.specs.Raw.{arg_fits, chunk_fits, lit_fits, set_fits, term_fits}
+use Rattle.cyp_goal.specs.Raw.{arg_fits, chunk_fits, images_fit, lit_fits, set_fits, term_fits}
 use Rattle.cyp_heap.specs.Chunks.{apply_arg, apply_card, apply_chunk, arg_vars, card_vars, chunk_vars, chunks_vars}
+use Rattle.cyp_heap.specs.Goals.{apply_bind, apply_set_bind, image_vars}
 use Rattle.cyp_heap.specs.declared.chunk.Arg.{Arg}
 use Rattle.cyp_heap.specs.declared.chunk.Arg.TheVariants.{Int as IntArg, Set as SetArg}
 use Rattle.cyp_heap.specs.declared.chunk.Chunk.{Chunk}
@@ -17,6 +18,8 @@ use Rattle.cyp_term.specs.Terms.{apply_lit, apply_set, apply_term, apply_var, ba
 use Rattle.cyp_term.specs.declared.lit.Lit.{Lit}
 use Rattle.cyp_term.specs.declared.lit.Lit.TheVariants.{Eq, Le, Lt, Member, Ne, NotMember, NotSame, NotSub, Same, Sub}
 use Rattle.cyp_term.specs.declared.lit.SetTerm.{SetTerm}
+use Rattle.cyp_term.specs.declared.subst.IntBind.{IntBind}
+use Rattle.cyp_term.specs.declared.subst.SetBind.{SetBind}
 use Rattle.cyp_term.specs.declared.subst.Subst.{Subst}
 use Rattle.cyp_term.specs.declared.term.Term.{Term}
 use Rattle.cyp_term.specs.declared.term.Var.{Var}
@@ -129,3 +132,12 @@ module _ (by : Subst) (p q : Var → Bool) (K P : Var → Type 0) (brings : Brin
 
   pub chunks_each : (cs : List Chunk) → list_all (chunk_fits p q) cs ≡ true → Each K (chunks_vars cs) → Each P (chunks_vars (map (apply_chunk by) cs))
   chunks_each = list_each (chunk_fits p q) chunk_vars (apply_chunk by) chunk_vars chunk_each
+
+  -- the images of a map
+  pub maps_each : (m : Subst) → images_fit p q m ≡ true → Each K (image_vars m) → Each P (image_vars (record { ints = map (apply_bind by) m.ints; sets = map (apply_set_bind by) m.sets }))
+  maps_each m =
+      both_each (list_all (λ (b : IntBind). term_fits p b.to) m.ints) (list_all (λ (b : SetBind). set_fits p q b.to) m.sets)
+      (flat_map (λ (b : IntBind). term_vars b.to) m.ints) (flat_map (λ (b : SetBind). set_vars b.to) m.sets)
+      (flat_map (λ (b : IntBind). term_vars b.to) (map (apply_bind by) m.ints)) (flat_map (λ (b : SetBind). set_vars b.to) (map (apply_set_bind by) m.sets))
+      (list_each (λ (b : IntBind). term_fits p b.to) (λ (b : IntBind). term_vars b.to) (apply_bind by) (λ (b : IntBind). term_vars b.to) (λ b. term_each b.to) m.ints)
+      (list_each (λ (b : SetBind). set_fits p q b.to) (λ (b : SetBind). set_vars b.to) (apply_set_bind by) (λ (b : SetBind). set_vars b.to) (λ b. set_each b.to) m.sets)

@@ -4,8 +4,9 @@ use Rattle.std.specs.List.{list_all}
 use Rattle.std.proofs.lemmas.Bool.{and_from, and_parts}
 use Rattle.cyp_goal.proofs.EachVar.{Each}
 use Rattle.cyp_goal.proofs.Fits.{lit_fits-at}
-use Rattle.cyp_goal.specs.Raw.{arg_fits, chunk_fits, lit_fits, set_fits, term_fits}
+use Rattle.cyp_goal.specs.Raw.{arg_fits, chunk_fits, images_fit, lit_fits, set_fits, term_fits}
 use Rattle.cyp_heap.specs.Chunks.{arg_vars, card_vars, chunk_vars, chunks_vars}
+use Rattle.cyp_heap.specs.Goals.{image_vars}
 use Rattle.cyp_heap.specs.declared.chunk.Arg.{Arg}
 use Rattle.cyp_heap.specs.declared.chunk.Arg.TheVariants.{Int as IntArg, Set as SetArg}
 use Rattle.cyp_heap.specs.declared.chunk.Chunk.{Chunk}
@@ -15,6 +16,9 @@ use Rattle.cyp_term.specs.Terms.{lit_vars, lits_vars, set_vars, term_vars}
 use Rattle.cyp_term.specs.declared.lit.Lit.{Lit}
 use Rattle.cyp_term.specs.declared.lit.Lit.TheVariants.{Same}
 use Rattle.cyp_term.specs.declared.lit.SetTerm.{SetTerm}
+use Rattle.cyp_term.specs.declared.subst.IntBind.{IntBind}
+use Rattle.cyp_term.specs.declared.subst.SetBind.{SetBind}
+use Rattle.cyp_term.specs.declared.subst.Subst.{Subst}
 use Rattle.cyp_term.specs.declared.term.Term.{Term}
 use Rattle.cyp_term.specs.declared.term.Var.{Var}
 
@@ -39,6 +43,14 @@ module _ (p : Var → Bool) where
   chunk_passes (Cell c) h =
       and_from (term_fits p c.at) (term_fits p c.content) (each_from p (term_vars c.at) (λ v k. h v (Among-left v (term_vars c.at) (term_vars c.content) k)))
       (each_from p (term_vars c.content) (λ v k. h v (Among-right v (term_vars c.at) (term_vars c.content) k)))
+
+  pub images_pass : (m : Subst) → ((v : Var) → Among v (image_vars m) → p v ≡ true) → images_fit p p m ≡ true
+  images_pass m h =
+      let ints : List Var = flat_map (λ (b : IntBind). term_vars b.to) m.ints in
+      let sets : List Var = flat_map (λ (b : SetBind). set_vars b.to) m.sets in
+      and_from (list_all (λ (b : IntBind). term_fits p b.to) m.ints) (list_all (λ (b : SetBind). set_fits p p b.to) m.sets)
+      (each_from (λ (b : IntBind). term_fits p b.to) m.ints (λ b k. each_from p (term_vars b.to) (λ v i. h v (Among-left v ints sets (flat_in (λ (c : IntBind). term_vars c.to) v b m.ints k i)))))
+      (each_from (λ (b : SetBind). set_fits p p b.to) m.sets (λ b k. set_passes b.to (λ v i. h v (Among-right v ints sets (flat_in (λ (c : SetBind). set_vars c.to) v b m.sets k i)))))
 
   -- ---- and back
 
@@ -74,3 +86,10 @@ module _ (p : Var → Bool) where
 
   pub chunks_at : (cs : List Chunk) → list_all (chunk_fits p p) cs ≡ true → Each Passes (chunks_vars cs)
   chunks_at = all_at (chunk_fits p p) chunk_vars chunk_at
+
+  pub images_at : (m : Subst) → images_fit p p m ≡ true → Each Passes (image_vars m)
+  images_at m =
+      both_at (list_all (λ (b : IntBind). term_fits p b.to) m.ints) (list_all (λ (b : SetBind). set_fits p p b.to) m.sets)
+      (flat_map (λ (b : IntBind). term_vars b.to) m.ints) (flat_map (λ (b : SetBind). set_vars b.to) m.sets)
+      (all_at (λ (b : IntBind). term_fits p b.to) (λ (b : IntBind). term_vars b.to) (λ b. term_at b.to) m.ints)
+      (all_at (λ (b : SetBind). set_fits p p b.to) (λ (b : SetBind). set_vars b.to) (λ b. set_at b.to) m.sets)

@@ -3,16 +3,17 @@ use Rattle.std.proofs.Common.{◌≡◌, refl, sym, ap, ◌∙◌, ℕ, zero, su
 use Rattle.std.specs.List.{list_all}
 use Rattle.std.proofs.lemmas.Bool.{and_parts, both_ways, false_from_ne_true, not-true}
 use Rattle.std.proofs.lemmas.Option.{none-some, option_and_then_some, same_Some}
-use Rattle.cyp_goal.proofs.Fits.{ImagesFit, chunk_fits-apply, lits_fit-apply}
+use Rattle.cyp_goal.proofs.Fits.{ImagesFit, chunk_fits-apply, link_fits-apply, lits_fit-apply}
 use Rattle.cyp_goal.proofs.Renumber.{no_set}
 use Rattle.cyp_goal.proofs.SolveLeaves.{apart, cond_other, post_at, pre_at}
 use Rattle.cyp_goal.proofs.SolvedLits.{solved_eq-by}
 use Rattle.cyp_goal.specs.Normal.{solve}
-use Rattle.cyp_goal.specs.Raw.{chunk_fits, lit_fits, term_fits}
+use Rattle.cyp_goal.specs.Raw.{chunk_fits, images_fit, lit_fits, term_fits}
 use Rattle.cyp_goal.specs.Solving.{bind_int, bind_set, first_solved, is_logical, solve_post, solve_pre, solved_any, solved_eq, substitute, wide_subst, with_post, with_pre}
 use Rattle.cyp_heap.proofs.Agreement.{side_agrees}
 use Rattle.cyp_heap.specs.Chunks.{apply_chunk}
-use Rattle.cyp_heap.specs.Goals.{apply_node, wide_node}
+use Rattle.cyp_heap.specs.Goals.{apply_link, apply_node, wide_node}
+use Rattle.cyp_heap.specs.declared.goal.Link.{Link}
 use Rattle.cyp_heap.specs.declared.goal.Node.{Node}
 use Rattle.cyp_kernel.proofs.AppliedSides.{side_applied}
 use Rattle.cyp_kernel.proofs.BySort.{agree_then, same_members, same_number}
@@ -53,6 +54,30 @@ apart_after n by pre post is fit spares h =
       pre_cards = plain_stays by spares n.goal.pre.chunks is.pre_cards;
       post_cards = plain_stays by spares n.goal.post.chunks is.post_cards;
     }
+
+-- no existential stands in an image of the companion's map
+abbrev pub images_apart : List Var → Link → Bool
+images_apart exist k = images_fit (apart exist) (apart exist) k.map
+
+images_after : (exist : List Var) (by : Subst) → ImagesFit (apart exist) (apart exist) by → (ks : List Link) → list_all (images_apart exist) ks ≡ true → list_all (images_apart exist) (map (apply_link by) ks) ≡ true
+images_after exist by fit ks h =
+    each_from (images_apart exist) (map (apply_link by) ks) (λ l i.
+    let k = map_from (apply_link by) l ks i in
+    rw k.2 (link_fits-apply (apart exist) (apart exist) by fit (record k.0 { tuple = [] }) (each_at (images_apart exist) k.0 ks h k.1)))
+
+-- the existentials are the same, and where none stands in an image none does after
+pub record SameExist (n m : Node) : Type 0 where
+  pub exist : m.goal.exist ≡ n.goal.exist
+  pub images : list_all (images_apart n.goal.exist) n.links ≡ true → list_all (images_apart n.goal.exist) m.links ≡ true
+
+same_then : (n x m : Node) → SameExist n x → SameExist x m → SameExist n m
+same_then n x m a b = record {
+  exist = b.exist ∙ a.exist;
+  images = λ h. subst (λ (es : List Var). list_all (images_apart es) m.links ≡ true) a.exist (b.images (subst (λ (es : List Var). list_all (images_apart es) x.links ≡ true) (sym a.exist) (a.images h)));
+}
+
+same_itself : (n : Node) → SameExist n n
+same_itself n = record { exist = refl; images = λ h. h }
 
 -- ---- the precondition
 
@@ -98,6 +123,7 @@ SortedPre n = list_all (lit_fits no_set is_set_var) n.goal.pure_pre ≡ true
 -- what a turn comes to
 record PreTurn (n m : Node) : Type 0 where
   keeps : KeepsMeaning n m
+  same : SameExist n m
   is : IsApart m
   sorted : SortedPre m
 
@@ -114,11 +140,13 @@ pre_turn n m by rest is sorted found done =
     let left_sorted = each_from (lit_fits no_set is_set_var) rest (λ l k. each_at (lit_fits no_set is_set_var) l n.goal.pure_pre sorted (d.among l k)) in
     let left_apart = each_from (lit_fits a a) rest (λ l k. each_at (lit_fits a a) l n.goal.pure_pre is.lits (d.among l k)) in
     let spares : SparesCards by = subst SparesCards (sym i.binds) (int_spares i.var i.to i.int) in
+    let fit : ImagesFit a a by = (solved_eq-by (is_logical n.goal) a a d.lit by lit_apart d.answer).fit in
     let turn : PreTurn n (apply_node by (with_pre n rest)) = record {
       keeps = subst (λ (b : Subst). KeepsMeaning n (apply_node b (with_pre n rest))) (sym i.binds)
           (keep_pre n rest i.var i.to is i.int (not-true (var_in i.var n.goal.exist) logical.1) (i.fits no_set is_set_var lit_sorted) (i.fits a a lit_apart)
           (λ s k. let r = d.apart s k in (i.says s r.0, r.1)));
-      is = apart_after n by rest n.goal.pure_post is (solved_eq-by (is_logical n.goal) a a d.lit by lit_apart d.answer).fit spares left_apart;
+      same = record { exist = refl; images = images_after n.goal.exist by fit n.links };
+      is = apart_after n by rest n.goal.pure_post is fit spares left_apart;
       sorted = lits_fit-apply no_set is_set_var by (solved_eq-by (is_logical n.goal) no_set is_set_var d.lit by lit_sorted d.answer).fit rest left_sorted;
     } in
     subst (PreTurn n) (cond_other (wide_subst by || wide_node (apply_node by (with_pre n rest))) (apply_node by (with_pre n rest)) m done) turn
@@ -194,6 +222,7 @@ set_solved v u t out z =
 -- what a turn comes to
 record PostTurn (n m : Node) : Type 0 where
   keeps : KeepsMeaning n m
+  same : SameExist n m
   is : IsApart m
 
 module _ (n m : Node) (by : Subst) (rest : List Lit) (is : IsApart n) where
@@ -212,12 +241,14 @@ module _ (n m : Node) (by : Subst) (rest : List Lit) (is : IsApart n) where
   int_turn l i joined =
       let b : Subst = bind_int i.var i.to in
       let spares : SparesCards b = int_spares i.var i.to i.int in
+      let fit : ImagesFit (apart n.goal.exist) (apart n.goal.exist) b = record {
+        ints = λ w to p e. absurd (none-some to (sym (unbound i.var i.passes w p (Some i.to) None) ∙ e));
+        sets = λ w to p e. absurd (none-some to e);
+      } in
       let turn : PostTurn n (after b) = record {
         keeps = keep_post n rest i.var b is spares i.passes (int_other i.var i.to) (λ t k. joined (under b t) (i.back (under b t) (int_solved i.var i.to t i.other)) k);
-        is = apart_after n b n.goal.pure_pre rest is (record {
-          ints = λ w to p e. absurd (none-some to (sym (unbound i.var i.passes w p (Some i.to) None) ∙ e));
-          sets = λ w to p e. absurd (none-some to e);
-        }) spares is.lits;
+        same = record { exist = refl; images = images_after n.goal.exist b fit n.links };
+        is = apart_after n b n.goal.pure_pre rest is fit spares is.lits;
       } in
       subst (λ (x : Subst). PostTurn n (after x)) (sym i.binds) turn
 
@@ -225,12 +256,14 @@ module _ (n m : Node) (by : Subst) (rest : List Lit) (is : IsApart n) where
   set_turn l i joined =
       let b : Subst = bind_set i.var i.to in
       let spares : SparesCards b = set_spares i.var i.to in
+      let fit : ImagesFit (apart n.goal.exist) (apart n.goal.exist) b = record {
+        ints = λ w to p e. absurd (none-some to e);
+        sets = λ w to p e. absurd (none-some to (sym (unbound i.var i.passes w p (Some i.to) None) ∙ e));
+      } in
       let turn : PostTurn n (after b) = record {
         keeps = keep_post n rest i.var b is spares i.passes (set_other i.var i.to) (λ t k. joined (under b t) (i.back (under b t) (set_solved i.var i.to t i.other)) k);
-        is = apart_after n b n.goal.pure_pre rest is (record {
-          ints = λ w to p e. absurd (none-some to e);
-          sets = λ w to p e. absurd (none-some to (sym (unbound i.var i.passes w p (Some i.to) None) ∙ e));
-        }) spares is.lits;
+        same = record { exist = refl; images = images_after n.goal.exist b fit n.links };
+        is = apart_after n b n.goal.pure_pre rest is fit spares is.lits;
       } in
       subst (λ (x : Subst). PostTurn n (after x)) (sym i.binds) turn
 
@@ -253,32 +286,33 @@ keeps_then a b c f g s h ns k =
 
 pub record Solved (n m : Node) : Type 0 where
   pub keeps : KeepsMeaning n m
+  pub same : SameExist n m
   pub is : IsApart m
 
 pre_step : (k : ℕ) (n m : Node) → IsApart n → SortedPre n → ((x : Node) → IsApart x → SortedPre x → solve_pre k x ≡ Some m → Solved x m)
     → (o : Option (Subst × List Lit)) → first_solved (solved_eq (is_logical n.goal)) n.goal.pure_pre ≡ o → pre_at k n o ≡ Some m → Solved n m
-pre_step k n m is sorted ih None found e = subst (Solved n) (same_Some n m e) (record { keeps = keeps_itself n; is = is })
+pre_step k n m is sorted ih None found e = subst (Solved n) (same_Some n m e) (record { keeps = keeps_itself n; same = same_itself n; is = is })
 pre_step k n m is sorted ih (Some p) found e =
     option_and_then_some (solve_pre k) (substitute p.0 (with_pre n p.1)) m e (λ x done h.
     let turn : PreTurn n x = pre_turn n x p.0 p.1 is sorted found done in
     let rest : Solved x m = ih x turn.is turn.sorted h in
-    record { keeps = keeps_then n x m turn.keeps rest.keeps; is = rest.is })
+    record { keeps = keeps_then n x m turn.keeps rest.keeps; same = same_then n x m turn.same rest.same; is = rest.is })
 
 pre_loop : (k : ℕ) (n m : Node) → IsApart n → SortedPre n → solve_pre k n ≡ Some m → Solved n m
-pre_loop zero n m is sorted e = subst (Solved n) (same_Some n m e) (record { keeps = keeps_itself n; is = is })
+pre_loop zero n m is sorted e = subst (Solved n) (same_Some n m e) (record { keeps = keeps_itself n; same = same_itself n; is = is })
 pre_loop (suc k) n m is sorted e = pre_step k n m is sorted (λ x a b h. pre_loop k x m a b h) (first_solved (solved_eq (is_logical n.goal)) n.goal.pure_pre) refl e
 
 post_step : (k : ℕ) (n m : Node) → IsApart n → ((x : Node) → IsApart x → solve_post k x ≡ Some m → Solved x m)
     → (o : Option (Subst × List Lit)) → first_solved (solved_any (λ v. var_in v n.goal.exist)) n.goal.pure_post ≡ o → post_at k n o ≡ Some m → Solved n m
-post_step k n m is ih None found e = subst (Solved n) (same_Some n m e) (record { keeps = keeps_itself n; is = is })
+post_step k n m is ih None found e = subst (Solved n) (same_Some n m e) (record { keeps = keeps_itself n; same = same_itself n; is = is })
 post_step k n m is ih (Some p) found e =
     option_and_then_some (solve_post k) (substitute p.0 (with_post n p.1)) m e (λ x done h.
     let turn : PostTurn n x = post_turn n x p.0 p.1 is found done in
     let rest : Solved x m = ih x turn.is h in
-    record { keeps = keeps_then n x m turn.keeps rest.keeps; is = rest.is })
+    record { keeps = keeps_then n x m turn.keeps rest.keeps; same = same_then n x m turn.same rest.same; is = rest.is })
 
 post_loop : (k : ℕ) (n m : Node) → IsApart n → solve_post k n ≡ Some m → Solved n m
-post_loop zero n m is e = subst (Solved n) (same_Some n m e) (record { keeps = keeps_itself n; is = is })
+post_loop zero n m is e = subst (Solved n) (same_Some n m e) (record { keeps = keeps_itself n; same = same_itself n; is = is })
 post_loop (suc k) n m is e = post_step k n m is (λ x a h. post_loop k x m a h) (first_solved (solved_any (λ v. var_in v n.goal.exist)) n.goal.pure_post) refl e
 
 pub solve_meaning : (n m : Node) → IsApart n → SortedPre n → solve n ≡ Some m → Solved n m
@@ -286,4 +320,4 @@ solve_meaning n m is sorted e =
     option_and_then_some (λ (x : Node). solve_post (length x.goal.pure_post) x) (solve_pre (length n.goal.pure_pre) n) m e (λ x done h.
     let one : Solved n x = pre_loop (length n.goal.pure_pre) n x is sorted done in
     let two : Solved x m = post_loop (length x.goal.pure_post) x m one.is h in
-    record { keeps = keeps_then n x m one.keeps two.keeps; is = two.is })
+    record { keeps = keeps_then n x m one.keeps two.keeps; same = same_then n x m one.same two.same; is = two.is })
