@@ -30,7 +30,7 @@ image_base v None = v ∷ []
 image_base v (Some to) = term_vars to
 
 -- two parts of a list
-joined : (P : Var → Type 0) (us ws : List Var) → Each P us → Each P ws → Each P (us ++ ws)
+pub joined : (P : Var → Type 0) (us ws : List Var) → Each P us → Each P ws → Each P (us ++ ws)
 joined P us ws f g v k = ⊎_elim (f v) (g v) (Among-cases v us ws k)
 
 -- what the images of variables bring, by the tests of the places where the variables stand and a fact of each

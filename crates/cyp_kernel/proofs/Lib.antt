@@ -21,8 +21,10 @@ pub mod HeapRemoved
 pub mod LowerMeasures
 pub mod NamedValues
 pub mod NewNumber
+pub mod NormalBody
 pub mod NormalMeaning
 pub mod NormalReady
+pub mod NormalSteady
 pub mod NumberMeaning
 pub mod OldVars
 pub mod PassedVars

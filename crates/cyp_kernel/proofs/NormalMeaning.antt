@@ -31,7 +31,7 @@ use Rattle.cyp_term.specs.declared.term.Var.{Var}
 -- ---- what is asked
 
 -- a variable of a list that has none of the others
-apart_from : (exist vs : List Var) → list_all (λ v. not (var_in v vs)) exist ≡ true → (v : Var) → Among v vs → apart exist v ≡ true
+pub apart_from : (exist vs : List Var) → list_all (λ v. not (var_in v vs)) exist ≡ true → (v : Var) → Among v vs → apart exist v ≡ true
 apart_from exist vs h v k =
     ⊎_elim
     (λ e. absurd (both_ways (var_in v vs) (not-true (var_in v vs) (each_at (λ w. not (var_in w vs)) v exist h (in_among v exist e))) (among_in v vs k)))
@@ -111,7 +111,7 @@ normal_keeps n r ready e =
 -- ---- formed goals
 
 -- a variable apart from three lists is apart from two
-apart_two : (exist a b c : List Var) → list_all (λ v. not (var_in v (a ++ b ++ c))) exist ≡ true → list_all (λ v. not (var_in v (b ++ c))) exist ≡ true
+pub apart_two : (exist a b c : List Var) → list_all (λ v. not (var_in v (a ++ b ++ c))) exist ≡ true → list_all (λ v. not (var_in v (b ++ c))) exist ≡ true
 apart_two exist a b c h =
     each_from (λ v. not (var_in v (b ++ c))) exist (λ v k.
     ⊎_elim

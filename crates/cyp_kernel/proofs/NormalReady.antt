@@ -27,14 +27,14 @@ use Rattle.cyp_heap.specs.declared.chunk.Heap.{Heap}
 use Rattle.cyp_heap.specs.declared.chunk.InstOf.{InstOf}
 use Rattle.cyp_heap.specs.declared.goal.Goal.{Goal}
 use Rattle.cyp_heap.specs.declared.goal.Node.{Node}
-use Rattle.cyp_kernel.proofs.AppliedVars.{Brings, chunks_each, image_base, lits_each}
+use Rattle.cyp_kernel.proofs.AppliedVars.{Brings, chunks_each, image_base, joined, lits_each}
 use Rattle.cyp_kernel.proofs.NormalMeaning.{Made, made, ready_apart, ready_sorts, used_left}
 use Rattle.cyp_kernel.proofs.NumberMeaning.{int_new, new_beside, set_new}
 use Rattle.cyp_kernel.proofs.PassedVars.{chunks_at, lits_at}
 use Rattle.cyp_kernel.proofs.SolveMeaning.{IsApart, Solved, solve_meaning}
 use Rattle.cyp_kernel.proofs.TidyMeaning.{out_filter}
 use Rattle.cyp_kernel.specs.Meaning.{NormalIsReady, OldAreProgram}
-use Rattle.cyp_term.proofs.Lists.{Among, Among-cases, each_at, each_from, filter_out, map_from}
+use Rattle.cyp_term.proofs.Lists.{Among, each_at, each_from, filter_out, map_from}
 use Rattle.cyp_term.specs.Terms.{image_or_self, int_image, is_set_var, lits_vars, set_image, set_var, set_vars, var_at, var_in, var_eq, var_term}
 use Rattle.cyp_term.specs.declared.lit.SetTerm.{SetTerm}
 use Rattle.cyp_term.specs.declared.subst.Subst.{Subst}
@@ -85,11 +85,11 @@ normal_cards n r c e =
 -- ---- before the numbers
 
 -- no existential stands in the precondition
-record OutOf (n : Node) : Type 0 where
-  lits : Each (λ v. var_in v n.goal.exist ≡ false) (lits_vars n.goal.pure_pre)
-  chunks : Each (λ v. var_in v n.goal.exist ≡ false) (chunks_vars n.goal.pre.chunks)
+pub record OutOf (n : Node) : Type 0 where
+  pub lits : Each (λ v. var_in v n.goal.exist ≡ false) (lits_vars n.goal.pure_pre)
+  pub chunks : Each (λ v. var_in v n.goal.exist ≡ false) (chunks_vars n.goal.pre.chunks)
 
-out_left : (m : Node) → IsApart m → OutOf (prune (tidy_node m))
+pub out_left : (m : Node) → IsApart m → OutOf (prune (tidy_node m))
 out_left m is =
     let a : Var → Bool = apart m.goal.exist in
     let ts : List Term = flat_map address m.goal.pre.chunks in
@@ -138,41 +138,44 @@ module _ (x : Node) (f : HasSorts no_set is_set_var x) (used : Each (λ v. Among
   abbrev by : Subst
   by = numbering vs
 
-  abbrev Known : Var → Type 0
+  abbrev pub Known : Var → Type 0
   Known v = Among v vs × (var_in v x.goal.exist ≡ false)
 
-  abbrev Out : Var → Type 0
+  abbrev pub Out : Var → Type 0
   Out v = var_in v (map (new_name vs) x.goal.exist) ≡ false
 
   one_out : (v : Var) → Known v → Each Out (new_name vs v ∷ [])
   one_out v k w (inl e) = subst Out (sym e) (new_beside vs x.goal.exist used v k.0 k.1)
   one_out v k w (inr m) = absurd m
 
-  brings : Brings by no_set is_set_var Known Out
+  pub brings : Brings by no_set is_set_var Known Out
   brings = record {
     ints = λ v h k. subst (λ (o : Option Term). Each Out (image_base v o)) (sym (int_new vs v h k.0)) (one_out v k);
     sets = λ v h k. subst (λ (o : Option SetTerm). Each Out (set_vars (image_or_self v o))) (sym (set_new vs v h k.0)) (one_out v k);
     vars = λ v h k. subst (λ (o : Option Term). Out (var_at v o)) (sym (int_new vs v h k.0)) (new_beside vs x.goal.exist used v k.0 k.1);
   }
 
-  numbers_apart : list_all (λ v. not (var_in v (lits_vars (renumber x).goal.pure_pre ++ chunks_vars (renumber x).goal.pre.chunks))) (renumber x).goal.exist ≡ true
-  numbers_apart =
+  pub lits_out : Each Out (lits_vars (renumber x).goal.pure_pre)
+  lits_out =
       let parts : EachPart (λ v. Among v vs) x = each_part (λ v. Among v vs) x (λ v i. i) in
-      let lits : List Var = lits_vars (renumber x).goal.pure_pre in
-      let chunks : List Var = chunks_vars (renumber x).goal.pre.chunks in
-      let lits_out = lits_each by no_set is_set_var Known Out brings x.goal.pure_pre f.pure_pre (λ v k. (parts.pure_pre v k, out.lits v k)) in
-      let chunks_out = chunks_each by no_set is_set_var Known Out brings x.goal.pre.chunks f.pre (λ v k. (parts.pre v k, out.chunks v k)) in
-      each_from (λ v. not (var_in v (lits ++ chunks))) (renumber x).goal.exist (λ v k.
-      ⊎_elim
-      (λ e. absurd (both_ways (var_in v (renumber x).goal.exist) (⊎_elim (lits_out v) (chunks_out v) (Among-cases v lits chunks (in_among v (lits ++ chunks) e))) (among_in v (renumber x).goal.exist k)))
-      (λ e. ap not e)
-      (cases_Bool (var_in v (lits ++ chunks))))
+      lits_each by no_set is_set_var Known Out brings x.goal.pure_pre f.pure_pre (λ v k. (parts.pure_pre v k, out.lits v k))
+
+  pub chunks_out : Each Out (chunks_vars (renumber x).goal.pre.chunks)
+  chunks_out =
+      let parts : EachPart (λ v. Among v vs) x = each_part (λ v. Among v vs) x (λ v i. i) in
+      chunks_each by no_set is_set_var Known Out brings x.goal.pre.chunks f.pre (λ v k. (parts.pre v k, out.chunks v k))
+
+  -- no existential is in a list whose variables are none
+  pub all_apart : (us : List Var) → Each Out us → list_all (λ v. not (var_in v us)) (renumber x).goal.exist ≡ true
+  all_apart us h =
+      each_from (λ v. not (var_in v us)) (renumber x).goal.exist (λ v k.
+      ⊎_elim (λ e. absurd (both_ways (var_in v (renumber x).goal.exist) (h v (in_among v us e)) (among_in v (renumber x).goal.exist k))) (λ e. ap not e) (cases_Bool (var_in v us)))
 
   -- a test that each element passes after the change
-  mapped : {A : Type 0} (test : A → Bool) (g : A → A) → ((y : A) → test y ≡ true → test (g y) ≡ true) → (ys : List A) → list_all test ys ≡ true → list_all test (map g ys) ≡ true
+  pub mapped : {A : Type 0} (test : A → Bool) (g : A → A) → ((y : A) → test y ≡ true → test (g y) ≡ true) → (ys : List A) → list_all test ys ≡ true → list_all test (map g ys) ≡ true
   mapped test g one ys h = each_from test (map g ys) (λ z k. let y = map_from g z ys k in rw y.2 (one y.0 (each_at test y.0 ys h y.1)))
 
-  numbers_sorted : is_sorted (renumber x) ≡ true
+  pub numbers_sorted : is_sorted (renumber x) ≡ true
   numbers_sorted =
       let p : Var → Bool = no_set in
       let q : Var → Bool = is_set_var in
@@ -199,7 +202,7 @@ normal_is_ready n r ready e =
     let is = ap (λ (y : Renaming). y.node) d.is in
     record {
       sorted = subst (λ (y : Node). is_sorted y ≡ true) is (numbers_sorted x sorts used out);
-      exist_apart = subst (λ (y : Node). list_all (λ v. not (var_in v (lits_vars y.goal.pure_pre ++ chunks_vars y.goal.pre.chunks))) y.goal.exist ≡ true) is (numbers_apart x sorts used out);
+      exist_apart = subst (λ (y : Node). list_all (λ v. not (var_in v (lits_vars y.goal.pure_pre ++ chunks_vars y.goal.pre.chunks))) y.goal.exist ≡ true) is (all_apart x sorts used out _ (joined _ (lits_vars (renumber x).goal.pure_pre) (chunks_vars (renumber x).goal.pre.chunks) (lits_out x sorts used out) (chunks_out x sorts used out)));
       pre_cards = cards.pre;
       post_cards = cards.post;
     }

@@ -8,6 +8,7 @@ pub mod Meaning
 pub mod Meets
 pub mod Naming
 pub mod Narrow
+pub mod NormalSteady
 pub mod RuleLaws
 pub mod Statements
 pub mod Steady

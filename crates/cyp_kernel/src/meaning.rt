@@ -9,6 +9,7 @@ ghost use Rattle.cyp_kernel.specs.Meaning.{
   SortsAreNeeded,
   TidyingKeeps,
 };
+ghost use Rattle.cyp_kernel.specs.NormalSteady.{NormalBodies, NormalIsSteady, SteadyIsReady};
 
 /// Law: solving, tidying and pruning keep the meaning of a node: each heap of the precondition is one of
 /// the new precondition at the same values, and each heap of the new postcondition one of the old.
@@ -45,4 +46,17 @@ pub fn formed_goal_is_ready()
 /// Law: without the sorts of places solving may lose the meaning, even of the node of a formed goal.
 pub fn sorts_are_needed()
     ensures { SortsAreNeeded }
+{}
+
+/// Law: a node that is as the rules ask has what the normal form asks, and its normal form is as the rules
+/// ask.
+pub fn normal_form_is_steady()
+    ensures before { SteadyIsReady }
+    ensures after { NormalIsSteady }
+{}
+
+/// Law: a body that meets the goal of a normal form, under the names that are passed on, meets the goal of
+/// the node.
+pub fn normal_form_keeps_bodies()
+    ensures { NormalBodies }
 {}
