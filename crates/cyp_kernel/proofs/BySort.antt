@@ -15,7 +15,7 @@ agree_from Int s t v f g = f refl
 agree_from Card s t v f g = f refl
 agree_from Set s t v f g = g refl
 
-number_at : (k : Sort) (s t : Assignment) (v : Var) → not (sort_eq k Set) ≡ true → AgreeBy k s t v → s.number v ≡ t.number v
+pub number_at : (k : Sort) (s t : Assignment) (v : Var) → not (sort_eq k Set) ≡ true → AgreeBy k s t v → s.number v ≡ t.number v
 number_at Int s t v h a = a
 number_at Card s t v h a = a
 number_at Set s t v h a = absurd (false≢true h)

@@ -30,7 +30,7 @@ use Rattle.cyp_kernel.proofs.PassedVars.{images_at, images_pass}
 use Rattle.cyp_kernel.proofs.SolveMeaning.{Solved, images_apart, solve_meaning}
 use Rattle.cyp_kernel.proofs.SteadyParts.{slice_get-among}
 use Rattle.cyp_kernel.proofs.TidyMeaning.{out_filter}
-use Rattle.cyp_kernel.specs.NormalSteady.{NormalIsSteady, SteadyIsReady}
+use Rattle.cyp_kernel.specs.NormalSteady.{FormedIsSteady, NormalIsSteady, SteadyIsReady}
 use Rattle.cyp_kernel.specs.Steady.{IsSteady}
 use Rattle.cyp_term.proofs.Lists.{Among, Among-left, Among-right, each_at, each_from, filter_out, flat_in, map_from}
 use Rattle.cyp_term.specs.Terms.{is_set_var, lits_vars, set_vars, sort_eq, term_vars, var_in}
@@ -52,6 +52,17 @@ steady_is_ready n s =
       pre_cards = (and_parts fit cards outer.0).1;
       post_cards = outer.1;
     }
+
+pub formed_is_steady : FormedIsSteady
+formed_is_steady preds g f sorted = record {
+  sorted = sorted;
+  fits = and_from _ _ (and_from _ _ f.instances_fit f.pre_cards) f.post_cards;
+  program_int = f.program_int;
+  program_differs = f.program_differs;
+  exist_differs = f.exist_differs;
+  exist_apart = f.exist_apart;
+  exist_images = λ k i v e h. absurd (slice_get-among {A = Link} [] i k e);
+}
 
 -- ---- lists without repeats
 

@@ -9,7 +9,7 @@ ghost use Rattle.cyp_kernel.specs.Meaning.{
   SortsAreNeeded,
   TidyingKeeps,
 };
-ghost use Rattle.cyp_kernel.specs.NormalSteady.{NormalBodies, NormalIsSteady, SteadyIsReady};
+ghost use Rattle.cyp_kernel.specs.NormalSteady.{FormedIsSteady, NormalBodies, NormalIsSteady, SteadyIsReady};
 
 /// Law: solving, tidying and pruning keep the meaning of a node: each heap of the precondition is one of
 /// the new precondition at the same values, and each heap of the new postcondition one of the old.
@@ -48,9 +48,10 @@ pub fn sorts_are_needed()
     ensures { SortsAreNeeded }
 {}
 
-/// Law: a node that is as the rules ask has what the normal form asks, and its normal form is as the rules
-/// ask.
+/// Law: the node of a sorted formed goal is as the rules ask. Such a node has what the normal form asks,
+/// and its normal form is as the rules ask.
 pub fn normal_form_is_steady()
+    ensures formed { FormedIsSteady }
     ensures before { SteadyIsReady }
     ensures after { NormalIsSteady }
 {}
