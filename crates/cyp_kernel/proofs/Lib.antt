@@ -20,6 +20,7 @@ pub mod NamedValues
 pub mod NewNumber
 pub mod OldVars
 pub mod RuleAlloc
+pub mod RuleClose
 pub mod RuleEmp
 pub mod RuleFrame
 pub mod RuleFree

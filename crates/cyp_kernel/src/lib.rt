@@ -8,4 +8,4 @@ mod rules;
 pub use laws::{
     bound_grows, bound_in_one_line, lower_measure_is_bounded, program_of_derivation_is_closed,
 };
-pub use rules::flat_rules_are_sound;
+pub use rules::{flat_rules_are_sound, unfolding_rules_are_sound};
