@@ -11,6 +11,7 @@ pub mod Folded
 pub mod ForgetVars
 pub mod FramePairs
 pub mod GoalFacts
+pub mod GuardTests
 pub mod HeapAdded
 pub mod HeapCells
 pub mod HeapParts
