@@ -43,12 +43,12 @@ abbrev pub mixed : List Var → Assignment → Assignment → Assignment
 mixed vs s t = record { number = λ v. cond (var_in v vs) (t.number v) (s.number v); members = λ v. cond (var_in v vs) (t.members v) (s.members v) }
 
 module _ (vs : List Var) (s t : Assignment) where
-  mixed_in : (k : Sort) (v : Var) → var_in v vs ≡ true → AgreeBy k t (mixed vs s t) v
+  pub mixed_in : (k : Sort) (v : Var) → var_in v vs ≡ true → AgreeBy k t (mixed vs s t) v
   mixed_in Int v e = sym (ap (λ (b : Bool). cond b (t.number v) (s.number v)) e)
   mixed_in Card v e = sym (ap (λ (b : Bool). cond b (t.number v) (s.number v)) e)
   mixed_in Set v e = λ z. sym (ap (λ (b : Bool). int_in z (cond b (t.members v) (s.members v))) e)
 
-  mixed_out : (k : Sort) (v : Var) → var_in v vs ≡ false → AgreeBy k s (mixed vs s t) v
+  pub mixed_out : (k : Sort) (v : Var) → var_in v vs ≡ false → AgreeBy k s (mixed vs s t) v
   mixed_out Int v e = sym (ap (λ (b : Bool). cond b (t.number v) (s.number v)) e)
   mixed_out Card v e = sym (ap (λ (b : Bool). cond b (t.number v) (s.number v)) e)
   mixed_out Set v e = λ z. sym (ap (λ (b : Bool). int_in z (cond b (t.members v) (s.members v))) e)

@@ -14,6 +14,7 @@ pub mod Folded
 pub mod ForgetVars
 pub mod FramePairs
 pub mod GoalFacts
+pub mod GuardTests
 pub mod HeapAdded
 pub mod HeapCells
 pub mod HeapParts
@@ -30,6 +31,7 @@ pub mod OldVars
 pub mod PassedVars
 pub mod PlainCards
 pub mod RuleAlloc
+pub mod RuleClose
 pub mod RuleEmp
 pub mod RuleFrame
 pub mod RuleFree

@@ -38,7 +38,7 @@ use Rattle.cyp_term.specs.declared.term.Var.{Var}
 use Rattle.cyp_unify.specs.Frames.{focus, frame_lits, frame_pairs}
 use Rattle.cyp_unify.specs.declared.found.Pair.{Pair}
 
-head_out : {A : Type 0} (xs : List A) (x : A) → slice_get xs 0 ≡ Some x → x ∷ without xs 0 ≡ xs
+pub head_out : {A : Type 0} (xs : List A) (x : A) → slice_get xs 0 ≡ Some x → x ∷ without xs 0 ≡ xs
 head_out [] x e = absurd (none-some x e)
 head_out (y ∷ xs) x e = ap (λ z. z ∷ xs) (sym (same_Some y x e))
 

@@ -1,5 +1,5 @@
 ghost use Rattle.cyp_kernel.specs.RuleLaws.{RuleLaw};
-ghost use Rattle.cyp_step.specs.declared.rule.Rule.TheVariants.{ByAlloc, ByEmp, ByFrame, ByFree, ByInconsistent, ByPick, ByRead, ByWrite};
+ghost use Rattle.cyp_step.specs.declared.rule.Rule.TheVariants.{ByAlloc, ByClose, ByEmp, ByFrame, ByFree, ByInconsistent, ByPick, ByRead, ByWrite};
 ghost use Rattle.cyp_term.specs.declared.term.Var.{Var};
 ghost use Rattle.std.specs.Prelude.{ℕ};
 
@@ -14,4 +14,10 @@ pub fn flat_rules_are_sound()
     ensures free { (i : ℕ) → RuleLaw (ByFree i) }
     ensures alloc { RuleLaw ByAlloc }
     ensures pick { (v : Var) → RuleLaw (ByPick v) }
+{}
+
+/// Law: so it is for the rules that unfold an instance, over predicates of which no two guards can
+/// both hold.
+pub fn unfolding_rules_are_sound()
+    ensures close { (k : ℕ) → RuleLaw (ByClose k) }
 {}
