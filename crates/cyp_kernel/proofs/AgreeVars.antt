@@ -1,10 +1,11 @@
 -- Assignments that agree at the variables of a side of a goal, each by its sort, make it hold alike.
-use Rattle.std.proofs.Common.{◌≡◌, refl, ap, inl, Bool, true, not, List, [], ◌∷◌, ◌++◌, flat_map, ℕ, ◌+ℤ◌, ℤ, Option, Some, None}
+use Rattle.std.proofs.Common.{◌≡◌, refl, ap, inl, Bool, true, not, List, [], ◌∷◌, ◌++◌, append-nil, flat_map, ℕ, ◌+ℤ◌, ℤ, Option, Some, None, subst}
 use Rattle.std.specs.List.{list_all}
-use Rattle.std.proofs.lemmas.Bool.{and_parts, false≢true}
+use Rattle.std.proofs.lemmas.Bool.{and_from, and_parts, false≢true}
 use Rattle.cyp_goal.proofs.EachVar.{Each, first, second}
 use Rattle.cyp_goal.specs.Raw.{arg_fits, chunk_fits, lit_fits, set_fits, term_fits}
-use Rattle.cyp_heap.proofs.Agreement.{SameNumbers, SameSets, SameValues, cards_of, side_agrees}
+use Rattle.cyp_heap.proofs.Agreement.{SameNumbers, SameSets, SameValues, cards_of, chunks_agree, side_agrees}
+use Rattle.cyp_heap.proofs.SameChunks.{SameChunk}
 use Rattle.cyp_heap.specs.Assertions.{SideHolds}
 use Rattle.cyp_heap.specs.Chunks.{arg_vars, card_vars, chunk_vars, chunks_vars}
 use Rattle.cyp_heap.specs.PredsFormed.{arg_set_vars, arg_terms, chunk_set_vars, chunk_terms, lit_terms}
@@ -15,6 +16,7 @@ use Rattle.cyp_heap.specs.declared.chunk.Chunk.{Chunk}
 use Rattle.cyp_heap.specs.declared.chunk.Chunk.TheVariants.{Block, Cell, Inst}
 use Rattle.cyp_heap.specs.declared.pred.Preds.{Preds}
 use Rattle.cyp_kernel.specs.Correct.{AgreeBy}
+use Rattle.cyp_term.proofs.Lists.{Among}
 use Rattle.cyp_term.specs.Meaning.{Assignment, SameMembers, base_value, value}
 use Rattle.cyp_term.specs.Regions.{lit_set_vars}
 use Rattle.cyp_term.specs.Terms.{base_vars, is_set_var, lit_vars, lits_vars, set_vars, sort_eq, term_vars}
@@ -191,3 +193,11 @@ module _ (s t : Assignment) where
       let lits = lits_alike ls f d in
       let chunks = chunks_alike cs g e in
       side_agrees preds s t ls cs h ns (record { lit_values = lits.0; lit_sets = lits.1; chunk_values = chunks.terms; chunk_sets = chunks.sets; cards = chunks.cards }) k
+
+-- a chunk means the same where the assignments agree at its variables
+pub same_by_vars : (s u : Assignment) (c : Chunk) → chunk_sorted c ≡ true → Each (AgreeAt s u) (chunk_vars c) → SameChunk s u c c
+same_by_vars s u c f e =
+    let a = chunks_alike s u (c ∷ []) (and_from (chunk_sorted c) true f refl) (λ v k. e v (in_one v k)) in (chunks_agree s u (c ∷ []) a.terms a.sets).0
+  where
+    in_one : (v : Var) → Among v (chunk_vars c ++ []) → Among v (chunk_vars c)
+    in_one v k = subst (Among v) (append-nil (chunk_vars c)) k

@@ -5,6 +5,7 @@ pub mod BoundAlone
 pub mod BoundEquation
 pub mod BoundGrowth
 pub mod ChunkOrder
+pub mod ClauseAgrees
 pub mod ClosedPrograms
 pub mod Examples
 pub mod Folded
@@ -20,6 +21,8 @@ pub mod LowerMeasures
 pub mod NamedValues
 pub mod NewNumber
 pub mod OldVars
+pub mod Opened
+pub mod ParamsAgree
 pub mod RuleAlloc
 pub mod RuleClose
 pub mod RuleEmp

@@ -15,7 +15,7 @@ use Rattle.cyp_heap.specs.declared.chunk.Chunk.{Chunk}
 use Rattle.cyp_heap.specs.declared.chunk.Chunk.TheVariants.{Block, Cell, Inst}
 use Rattle.cyp_heap.specs.declared.goal.Node.{Node}
 use Rattle.cyp_heap.specs.declared.pred.Preds.{Preds}
-use Rattle.cyp_kernel.proofs.AgreeVars.{AgreeAt, chunk_sorted, chunks_alike}
+use Rattle.cyp_kernel.proofs.AgreeVars.{AgreeAt, same_by_vars}
 use Rattle.cyp_kernel.proofs.Allowed.{taken_some, taken_true}
 use Rattle.cyp_kernel.proofs.BodyRuns.{one_premise}
 use Rattle.cyp_kernel.proofs.FramePairs.{InstFits, frame_same, pair_of_focus}
@@ -56,14 +56,6 @@ no_card : (preds : Preds) (inst : Instances) (c : Chunk) → FitsPost preds c �
 no_card preds inst (Inst i) h = h.1
 no_card preds inst (Block b) h = tt
 no_card preds inst (Cell c) h = tt
-
--- a chunk means the same where the assignments agree at its variables
-same_by_vars : (s u : Assignment) (c : Chunk) → chunk_sorted c ≡ true → Each (AgreeAt s u) (chunk_vars c) → SameChunk s u c c
-same_by_vars s u c f e =
-    let a = chunks_alike s u (c ∷ []) (and_from (chunk_sorted c) true f refl) (λ v k. e v (in_one v k)) in (chunks_agree s u (c ∷ []) a.terms a.sets).0
-  where
-    in_one : (v : Var) → Among v (chunk_vars c ++ []) → Among v (chunk_vars c)
-    in_one v k = subst (Among v) (append-nil (chunk_vars c)) k
 
 frames_same : (x y : State) → y.frames ≡ x.frames → has_ended y ≡ true → has_ended x ≡ true
 frames_same x y e h = ap frames_ended (sym e) ∙ h
