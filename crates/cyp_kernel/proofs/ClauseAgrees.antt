@@ -166,3 +166,33 @@ module _ (preds : Preds) (formed : IsFormedPreds preds) (j : InstOf) (next : Nex
                 ∙ new_members next (length (int_args j.args)) p ns s w (i - p)
                 ∙ ap (λ (y : ℕ). w.members (set_numbered y)) (back_again p i h))
           ]
+
+      closed : (list_all (is_below Int c.ints) (flat_map term_vars (clause_terms c)) ≡ true) × (list_all (is_below Set c.sets) (clause_set_vars c) ≡ true)
+      closed =
+          and_parts (list_all (is_below Int c.ints) (flat_map term_vars (clause_terms c))) (list_all (is_below Set c.sets) (clause_set_vars c))
+          (clause_passes (λ q c. is_closed c) preds formed.closed j.pred k q c at e)
+
+      clause_value : (t : Term) → Among t (clause_terms c) → value w t ≡ value applied_to t
+      clause_value t m =
+          sym (term_same applied_to w t (λ v i.
+              number_below applied_to w c.ints clause_number v (each_at (is_below Int c.ints) v (flat_map term_vars (clause_terms c)) closed.0 (flat_in term_vars v t (clause_terms c) m i))))
+
+      clause_set : (v : Var) → Among v (clause_set_vars c) → SameMembers (w.members v) (applied_to.members v)
+      clause_set v m z = sym (members_below applied_to w c.sets clause_members v (each_at (is_below Set c.sets) v (clause_set_vars c) closed.1 m) z)
+
+      -- the literals
+      pub clause_lits : AllTrue w (c.guard ∷ c.lits) → AllTrue applied_to (c.guard ∷ c.lits)
+      clause_lits h =
+          let terms : List Term = lit_terms c.guard ++ flat_map lit_terms c.lits in
+          let vars : List Var = lit_set_vars c.guard ++ flat_map lit_set_vars c.lits in
+          all_agree w applied_to (c.guard ∷ c.lits) (values_from w applied_to terms (λ t m. clause_value t (Among-left t terms (flat_map chunk_terms c.heap.chunks) m)))
+          (sets_from w applied_to vars (λ v m. clause_set v (Among-left v vars (flat_map chunk_set_vars c.heap.chunks) m))) h
+
+      -- and the chunks
+      pub clause_chunks : (h : Store) → ChunksHold (InstanceHolds preds) w c.heap.chunks h ns → ChunksHold (InstanceHolds preds) applied_to c.heap.chunks h ns
+      clause_chunks h o =
+          let terms : List Term = lit_terms c.guard ++ flat_map lit_terms c.lits in
+          let vars : List Var = lit_set_vars c.guard ++ flat_map lit_set_vars c.lits in
+          side_chunks_same preds w applied_to c.heap.chunks c.heap.chunks h ns
+          (chunks_agree w applied_to c.heap.chunks (values_from w applied_to (flat_map chunk_terms c.heap.chunks) (λ t m. clause_value t (Among-right t terms (flat_map chunk_terms c.heap.chunks) m)))
+          (sets_from w applied_to (flat_map chunk_set_vars c.heap.chunks) (λ v m. clause_set v (Among-right v vars (flat_map chunk_set_vars c.heap.chunks) m)))) o

@@ -22,6 +22,7 @@ pub mod NamedValues
 pub mod NewNumber
 pub mod OldVars
 pub mod Opened
+pub mod OpenedHolds
 pub mod ParamsAgree
 pub mod RuleAlloc
 pub mod RuleClose
