@@ -4,7 +4,7 @@ use Rattle.std.specs.List.{list_all}
 use Rattle.std.proofs.lemmas.Bool.{and_from, and_parts, false≢true}
 use Rattle.cyp_goal.proofs.EachVar.{Each, first, second}
 use Rattle.cyp_goal.specs.Raw.{arg_fits, chunk_fits, lit_fits, set_fits, term_fits}
-use Rattle.cyp_heap.proofs.Agreement.{SameNumbers, SameSets, SameValues, cards_of, chunks_agree, side_agrees}
+use Rattle.cyp_heap.proofs.Agreement.{SameNumbers, SameSets, SameValues, all_agree, cards_of, chunks_agree, side_agrees}
 use Rattle.cyp_heap.proofs.SameChunks.{SameChunk}
 use Rattle.cyp_heap.specs.Assertions.{SideHolds}
 use Rattle.cyp_heap.specs.Chunks.{arg_vars, card_vars, chunk_vars, chunks_vars}
@@ -17,7 +17,7 @@ use Rattle.cyp_heap.specs.declared.chunk.Chunk.TheVariants.{Block, Cell, Inst}
 use Rattle.cyp_heap.specs.declared.pred.Preds.{Preds}
 use Rattle.cyp_kernel.specs.Correct.{AgreeBy}
 use Rattle.cyp_term.proofs.Lists.{Among}
-use Rattle.cyp_term.specs.Meaning.{Assignment, SameMembers, base_value, value}
+use Rattle.cyp_term.specs.Meaning.{AllTrue, Assignment, SameMembers, base_value, value}
 use Rattle.cyp_term.specs.Regions.{lit_set_vars}
 use Rattle.cyp_term.specs.Terms.{base_vars, is_set_var, lit_vars, lits_vars, set_vars, sort_eq, term_vars}
 use Rattle.cyp_term.specs.declared.lit.Lit.{Lit}
@@ -186,6 +186,9 @@ module _ (s t : Assignment) where
       record { terms = (here.0.0, (here.0.1.0, later.terms)); sets = later.sets; cards = later.cards }
 
   -- ---- a side of a goal
+
+  pub lits_by_vars : (ls : List Lit) → list_all lit_sorted ls ≡ true → Each AgreeAt (lits_vars ls) → AllTrue s ls → AllTrue t ls
+  lits_by_vars ls f e k = let a = lits_alike ls f e in all_agree s t ls a.0 a.1 k
 
   pub side_by_vars : (preds : Preds) (ls : List Lit) (cs : List Chunk) (h : Store) (ns : List ℕ) → list_all lit_sorted ls ≡ true → list_all chunk_sorted cs ≡ true
       → Each AgreeAt (lits_vars ls) → Each AgreeAt (chunks_vars cs) → SideHolds preds s ls cs h ns → SideHolds preds t ls cs h ns

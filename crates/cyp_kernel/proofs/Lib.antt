@@ -30,6 +30,7 @@ pub mod RuleEmp
 pub mod RuleFrame
 pub mod RuleFree
 pub mod RuleInconsistent
+pub mod RuleOpen
 pub mod RulePick
 pub mod RuleRead
 pub mod RuleWrite
