@@ -27,6 +27,7 @@ pub mod ParamsAgree
 pub mod RuleAlloc
 pub mod RuleClose
 pub mod RuleEmp
+pub mod RuleExamples
 pub mod RuleFrame
 pub mod RuleFree
 pub mod RuleInconsistent
