@@ -12,6 +12,7 @@ use Rattle.cyp_heap.specs.PredsFormed.{IsFormedPreds}
 use Rattle.cyp_heap.specs.Stores.{IsCell, Store}
 use Rattle.cyp_heap.specs.declared.chunk.Chunk.{Chunk}
 use Rattle.cyp_heap.specs.declared.chunk.Chunk.TheVariants.{Block, Cell, Inst}
+use Rattle.cyp_heap.specs.declared.chunk.InstOf.{InstOf}
 use Rattle.cyp_heap.specs.declared.goal.Goal.{Goal}
 use Rattle.cyp_heap.specs.declared.goal.Link.{Link}
 use Rattle.cyp_heap.specs.declared.goal.Node.{Node}
@@ -19,8 +20,7 @@ use Rattle.cyp_heap.specs.declared.pred.Clause.{Clause}
 use Rattle.cyp_heap.specs.declared.pred.Preds.{Preds}
 use Rattle.cyp_kernel.proofs.BodyRuns.{ended_run}
 use Rattle.cyp_kernel.proofs.Examples.{empty_goal, empty_node}
-use Rattle.cyp_kernel.proofs.ForgetVars.{agree_self, agree_trans}
-use Rattle.cyp_kernel.proofs.NewNumber.{put_agree, put_number}
+use Rattle.cyp_kernel.proofs.ForgetVars.{agree_self, mixed, mixed_out}
 use Rattle.cyp_kernel.proofs.RuleAlloc.{by_alloc}
 use Rattle.cyp_kernel.proofs.RuleClose.{by_close}
 use Rattle.cyp_kernel.proofs.RuleEmp.{by_emp}
@@ -38,12 +38,13 @@ use Rattle.cyp_kernel.specs.Steady.{IsSteady}
 use Rattle.cyp_prog.specs.Programs.{Body, Choosing, End, Failing, Giving, Loading, Procedure, Storing, Taking, Then}
 use Rattle.cyp_prog.specs.declared.stmt.Expr.{Expr}
 use Rattle.cyp_step.specs.Step.{raws}
+use Rattle.cyp_step.specs.Unfolding.{open_link}
 use Rattle.cyp_step.specs.declared.rule.Rule.TheVariants.{ByAlloc, ByClose, ByEmp, ByFrame, ByFree, ByInconsistent, ByOpen, ByPick, ByRead, ByWrite}
 use Rattle.cyp_term.specs.Entailment.{arrangement_fits, arrangements, class_literals, entailed, satisfiable}
 use Rattle.cyp_term.specs.Integers.{all_cases, both, eliminate, eliminate_all, feasible, ints_fit, joined}
 use Rattle.cyp_term.specs.Meaning.{Assignment, value}
 use Rattle.cyp_term.specs.Regions.{all_set_vars, all_terms, regions_fit}
-use Rattle.cyp_term.specs.Terms.{lits_vars, number_term, sort_eq, var_in, var_term}
+use Rattle.cyp_term.specs.Terms.{lits_vars, number_term, sort_eq, var_eq, var_in, var_term}
 use Rattle.cyp_term.specs.declared.lit.Lit.{Lit}
 use Rattle.cyp_term.specs.declared.lit.Lit.TheVariants.{Eq, Lt}
 use Rattle.cyp_term.specs.declared.term.Sort.TheVariants.{Card, Int}
@@ -229,3 +230,128 @@ module _ (ps : List Procedure) (k : ℕ) where
   owned_meets =
       by_free 0 ps (plain owned) (plain freed ∷ []) (End ∷ []) names [] 2 k (unlinked_steady empty_node.preds owned refl refl refl refl refl refl) no_preds named owned_premises tt
       (end_meets empty_node.preds freed names (λ s h ms pre. (s, ms, (λ v e. agree_self v.sort s v), (tt, pre.1, pre.2))), tt)
+
+  -- ---- Alloc: { emp } { exists y, z: [y, 1] ** y :-> z }
+
+  abbrev wanted : Goal
+  wanted = record empty_goal { program = x ∷ []; exist = y ∷ z ∷ []; post = record { chunks = block (var_term y) 1 ∷ cell (var_term y) (var_term z) ∷ [] } }
+
+  -- the new base and the new content
+  abbrev base : Var
+  base = record { sort = Int; number = 3 }
+
+  abbrev content : Var
+  content = record { sort = Int; number = 4 }
+
+  abbrev taken : Goal
+  taken = record wanted {
+    program = x ∷ base ∷ [];
+    pre = record { chunks = block (var_term base) 1 ∷ cell (var_term base) (var_term content) ∷ [] };
+    pure_post = Eq (var_term y) (var_term base) ∷ [];
+  }
+
+  wanted_premises : raws (plain wanted) ByAlloc ≡ Some (plain taken ∷ [])
+  wanted_premises = refl
+
+  -- y is the base, and z is the content
+  abbrev chosen : Assignment → Assignment
+  chosen s = mixed (y ∷ z ∷ []) s (record { number = λ v. cond (var_eq v y) (s.number base) (s.number content); members = s.members })
+
+  wanted_meets : BodyMeets ps empty_node.preds wanted names k (Then (Taking 2 1) End)
+  wanted_meets =
+      by_alloc ps (plain wanted) (plain taken ∷ []) (End ∷ []) names [] 2 k (unlinked_steady empty_node.preds wanted refl refl refl refl refl refl) no_preds named wanted_premises tt
+      (
+        end_meets empty_node.preds taken (names ++ (base, 2) ∷ []) (λ s h ms pre. (
+          chosen s,
+          ms,
+          (λ v e. mixed_out (y ∷ z ∷ []) s (record { number = λ v. cond (var_eq v y) (s.number base) (s.number content); members = s.members }) v.sort v e),
+          ((refl, tt), pre.1, pre.2),
+        )),
+        tt,
+      )
+
+  -- ---- Pick: { emp } { exists y: y == x }
+
+  abbrev equal : Goal
+  equal = record empty_goal { program = x ∷ []; exist = y ∷ []; pure_post = Eq (var_term y) (var_term x) ∷ [] }
+
+  abbrev picked : Goal
+  picked = record equal { pure_post = Eq (var_term y) (var_term x) ∷ Eq (var_term y) (var_term x) ∷ [] }
+
+  equal_premises : raws (plain equal) (ByPick x) ≡ Some (plain picked ∷ [])
+  equal_premises = refl
+
+  equal_meets : BodyMeets ps empty_node.preds equal names k End
+  equal_meets =
+      by_pick x ps (plain equal) (plain picked ∷ []) (End ∷ []) names [] 2 k (unlinked_steady empty_node.preds equal refl refl refl refl refl refl) no_preds named equal_premises tt
+      (
+        end_meets empty_node.preds picked names (λ s h ms pre. (
+          mixed (y ∷ []) s (record { number = λ v. s.number x; members = s.members }),
+          ms,
+          (λ v e. mixed_out (y ∷ []) s (record { number = λ v. s.number x; members = s.members }) v.sort v e),
+          ((refl, (refl, tt)), pre.1, pre.2),
+        )),
+        tt,
+      )
+
+  -- ---- Close and Open, with the predicate `q() { 0 == 0 => { emp } }`
+
+  abbrev preds : Preds
+  preds = record {
+    list = record { name = []; params = []; clauses = record { guard = Eq (number 0) (number 0); lits = []; heap = record { chunks = [] }; ints = 0; sets = 0 } ∷ [] } ∷ [];
+  }
+
+  preds_formed : IsFormedPreds preds
+  preds_formed = record {
+    few = refl;
+    has_clauses = refl;
+    few_clauses = refl;
+    few_params = refl;
+    params_sorted = refl;
+    guards_plain = refl;
+    guards_apart = refl;
+    params_counted = refl;
+    closed = refl;
+    instances_plain = refl;
+    productive = refl;
+    clauses_within = refl;
+  }
+
+  abbrev over : Goal → Node
+  over g = record { preds = preds; goal = g; links = [] }
+
+  -- { emp } { q() }
+  abbrev folded : Goal
+  folded = record empty_goal { post = record { chunks = Inst (record { pred = 0; args = []; card = None; tag = 0 }) ∷ [] } }
+
+  abbrev closed : Goal
+  closed = record empty_goal { pure_post = Eq (number 0) (number 0) ∷ [] }
+
+  folded_premises : raws (over folded) (ByClose 0) ≡ Some (over closed ∷ [])
+  folded_premises = refl
+
+  folded_meets : BodyMeets ps preds folded [] k End
+  folded_meets =
+      by_close 0 ps (over folded) (over closed ∷ []) (End ∷ []) [] [] 1 k (unlinked_steady preds folded refl refl refl refl refl refl) preds_formed no_names folded_premises tt
+      (end_meets preds closed [] (λ s h ms pre. (s, ms, (λ v e. agree_self v.sort s v), ((refl, tt), pre.1, pre.2))), tt)
+
+  -- { q() } { emp }
+  abbrev instance : InstOf
+  instance = record { pred = 0; args = []; card = Some (record { sort = Card; number = 0 }); tag = 0 }
+
+  abbrev unfolded : Goal
+  unfolded = record empty_goal { pre = record { chunks = Inst instance ∷ [] } }
+
+  abbrev emptied : Goal
+  emptied = record empty_goal { pure_pre = Eq (number 0) (number 0) ∷ [] }
+
+  abbrev emptied_node : Node
+  emptied_node = record { preds = preds; goal = emptied; links = open_link (over unfolded) 0 instance ∷ [] }
+
+  unfolded_premises : raws (over unfolded) (ByOpen 0) ≡ Some (emptied_node ∷ [])
+  unfolded_premises = refl
+
+  unfolded_meets : BodyMeets ps preds unfolded [] k End
+  unfolded_meets =
+      by_open 0 ps (over unfolded) (emptied_node ∷ []) (End ∷ []) [] [] 1 k (unlinked_steady preds unfolded refl refl refl refl refl refl) preds_formed no_names unfolded_premises tt
+      (end_meets preds emptied [] (λ s h ms pre. (s, ms, (λ v e. agree_self v.sort s v), (tt, pre.1, pre.2))), tt)
