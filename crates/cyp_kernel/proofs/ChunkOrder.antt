@@ -10,8 +10,7 @@ use Rattle.cyp_heap.specs.Instances.{ChunksHold, Instances, arg_value}
 use Rattle.cyp_heap.specs.Stores.{IsBlock, IsCell, IsUnion, Store, no_store}
 use Rattle.cyp_heap.specs.declared.chunk.Chunk.{Chunk}
 use Rattle.cyp_heap.specs.declared.chunk.Chunk.TheVariants.{Block, Cell, Inst}
-use Rattle.cyp_kernel.proofs.HeapParts.{beside, regrouped, union_sym}
-use Rattle.cyp_kernel.proofs.HeapRemoved.{union_with_none}
+use Rattle.cyp_kernel.proofs.HeapParts.{beside, regrouped, union_sym, union_with_none}
 use Rattle.cyp_term.specs.Meaning.{Assignment, value}
 
 module _ (inst : Instances) (s : Assignment) where

@@ -20,6 +20,7 @@ pub mod HeapRemoved
 pub mod LowerMeasures
 pub mod NamedValues
 pub mod NewNumber
+pub mod Offsets
 pub mod OldVars
 pub mod Opened
 pub mod OpenedHolds

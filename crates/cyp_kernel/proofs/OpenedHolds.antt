@@ -1,11 +1,11 @@
 -- Where an instance with a cardinality holds, the unfolding of one of its clauses does, at lesser cardinalities.
-use Rattle.std.proofs.Common.{◌≡◌, refl, sym, ap, ◌∙◌, ℕ, zero, suc, ◌+◌, ◌<◌, Bool, true, List, [], ◌∷◌, ◌++◌, map, length, get_or, ℤ, pos, ◌+ℤ◌, ◌<ℤ◌, Option, Some, None, arith, subst}
+use Rattle.std.proofs.Common.{◌≡◌, refl, sym, ap, ◌∙◌, ℕ, suc, ◌+◌, ◌<◌, true, List, [], ◌∷◌, map, length, get_or, ℤ, pos, ◌+ℤ◌, ◌<ℤ◌, Option, Some, None, arith, subst}
 use Rattle.std.specs.Prelude.{slice_get}
 use Rattle.std.proofs.lemmas.Bool.{false≢true}
 use Rattle.std.proofs.lemmas.Int.{ints}
 use Rattle.cyp_heap.proofs.Applied.{apply_chunks_law}
 use Rattle.cyp_heap.proofs.Bounds.{AllBelow, below_from_height, bound_law, chunks_map}
-use Rattle.cyp_heap.specs.Assertions.{CardIs, CardsAre}
+use Rattle.cyp_heap.specs.Assertions.{CardsAre}
 use Rattle.cyp_heap.specs.Chunks.{apply_chunk, insts}
 use Rattle.cyp_heap.specs.Formed.{inst_fits, is_card_var}
 use Rattle.cyp_heap.specs.Instances.{ChunksHold, HoldsBelow, InstanceHolds, Instances, ParamsAre, arg_value, height_above}
@@ -24,12 +24,10 @@ use Rattle.cyp_kernel.proofs.GoalFacts.{true_join}
 use Rattle.cyp_kernel.proofs.Opened.{new_card, opened}
 use Rattle.cyp_pred.specs.Unfold.{below_card, card_var, clause_subst, count_from, int_args, set_args, unfold_clause, with_tags}
 use Rattle.cyp_pred.specs.declared.unfolded.Next.{Next}
-use Rattle.cyp_pred.specs.declared.unfolded.Unfolded.{Unfolded}
 use Rattle.cyp_term.proofs.Substitution.{apply_law}
 use Rattle.cyp_term.specs.Meaning.{AllTrue, Assignment, Truth, under}
-use Rattle.cyp_term.specs.Terms.{apply_lit, var_term}
+use Rattle.cyp_term.specs.Terms.{apply_lit}
 use Rattle.cyp_term.specs.declared.lit.Lit.{Lit}
-use Rattle.cyp_term.specs.declared.lit.Lit.TheVariants.{Lt}
 use Rattle.cyp_term.specs.declared.subst.Subst.{Subst}
 use Rattle.cyp_term.specs.declared.term.Var.{Var}
 

@@ -1,17 +1,17 @@
 -- The variables of an unfolded clause have the values for which the instance holds.
-use Rattle.std.proofs.Common.{◌≡◌, refl, sym, ap, ◌∙◌, ℕ, zero, suc, ◌+◌, ◌-◌, ◌<◌, ◌≤◌, ◌==◌, ◌⊎◌, inl, inr, Bool, true, false, List, [], ◌∷◌, ◌++◌, map, flat_map, length, append-nil, ℤ, pos, ◌+ℤ◌, Option, Some, None, arith, subst}
+use Rattle.std.proofs.Common.{◌≡◌, refl, sym, ap, ◌∙◌, ℕ, zero, suc, ◌+◌, ◌-◌, ◌<◌, ◌≤◌, ◌==◌, ◌⊎◌, inl, inr, Bool, true, false, List, [], ◌∷◌, ◌++◌, map, length, append-nil, Option, arith, subst}
 use Rattle.std.proofs.lemmas.Bool.{eqb-false, eqb-true, false≢true}
-use Rattle.std.proofs.lemmas.Int.{ints}
 use Rattle.cyp_heap.specs.Formed.{sorts_fit}
 use Rattle.cyp_heap.specs.Instances.{ArgValue, Members, Number, ParamsAre, arg_value}
-use Rattle.cyp_heap.specs.Laws.{SameArgValue, SameArgValues}
+use Rattle.cyp_heap.specs.Laws.{SameArgValues}
 use Rattle.cyp_heap.specs.PredsFormed.{count_of}
 use Rattle.cyp_heap.specs.declared.chunk.Arg.{Arg}
 use Rattle.cyp_heap.specs.declared.chunk.Arg.TheVariants.{Int as IntArg, Set as SetArg}
 use Rattle.cyp_kernel.proofs.NewNumber.{int_var}
+use Rattle.cyp_kernel.proofs.Offsets.{plus-zero}
 use Rattle.cyp_kernel.proofs.UnfoldParams.{IntsBound, SetsBound, ints_bound, set_numbered, sets_bound}
 use Rattle.cyp_pred.specs.Unfold.{bind_ints, bind_sets, int_args, new_ints, new_sets, set_args}
-use Rattle.cyp_term.specs.Meaning.{Assignment, SameMembers, image_members, image_value, int_in, set_value, under, value}
+use Rattle.cyp_term.specs.Meaning.{Assignment, SameMembers, image_members, image_value, int_in, set_value, under}
 use Rattle.cyp_term.specs.Terms.{set_var, var_term}
 use Rattle.cyp_term.specs.declared.lit.SetTerm.{SetTerm}
 use Rattle.cyp_term.specs.declared.subst.IntBind.{IntBind}
@@ -121,9 +121,6 @@ module _ (by : Subst) (s t w : Assignment) where
 
 -- ---- the clause's own variables
 
-plus_zero : (z : ℤ) → z +ℤ pos 0 ≡ z
-plus_zero z = omega (arith, ints)
-
 module _ (by : Subst) (t : Assignment) where
   -- own integers have the values of the new variables
   pub own_numbers : (i a m : ℕ) → IntsBound by.ints i (map var_term (new_ints a m)) → (j : ℕ) → i ≤ j → j < i + m
@@ -132,7 +129,7 @@ module _ (by : Subst) (t : Assignment) where
   own_numbers i a (suc m) g j l h = elim (first_or_later i j m l h) [
     | inl q ↦
         subst (λ (y : ℕ). (under by t).number (int_var y) ≡ t.number (int_var (a + (y - i)))) (sym q)
-        (ap (image_value t (int_var i)) g.0 ∙ plus_zero (t.number (int_var a)) ∙ ap (λ (y : ℕ). t.number (int_var y)) (none a i))
+        (ap (image_value t (int_var i)) g.0 ∙ plus-zero (t.number (int_var a)) ∙ ap (λ (y : ℕ). t.number (int_var y)) (none a i))
     | inr q ↦ own_numbers (suc i) (suc a) m g.1 j q.0 q.1 ∙ ap (λ (y : ℕ). t.number (int_var y)) (one a i j q.0)
   ]
     where

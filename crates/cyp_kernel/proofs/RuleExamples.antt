@@ -1,5 +1,5 @@
 -- The law of each rule at a small node: its premises are met there.
-use Rattle.std.proofs.Common.{◌≡◌, refl, sym, ap, ◌∙◌, ℕ, zero, suc, ◌<◌, Bool, true, false, cond, not, List, [], ◌∷◌, ◌++◌, None, Some, ℤ, pos, ◌+ℤ◌, arith, subst}
+use Rattle.std.proofs.Common.{◌≡◌, refl, ℕ, ◌<◌, Bool, true, false, cond, not, List, [], ◌∷◌, ◌++◌, None, Some, ℤ, pos, arith, subst}
 use Rattle.std.specs.Prelude.{IsTrue, slice_get}
 use Rattle.std.specs.List.{list_all}
 use Rattle.std.proofs.lemmas.Bool.{false≢true}
@@ -16,7 +16,6 @@ use Rattle.cyp_heap.specs.declared.chunk.InstOf.{InstOf}
 use Rattle.cyp_heap.specs.declared.goal.Goal.{Goal}
 use Rattle.cyp_heap.specs.declared.goal.Link.{Link}
 use Rattle.cyp_heap.specs.declared.goal.Node.{Node}
-use Rattle.cyp_heap.specs.declared.pred.Clause.{Clause}
 use Rattle.cyp_heap.specs.declared.pred.Preds.{Preds}
 use Rattle.cyp_kernel.proofs.BodyRuns.{ended_run}
 use Rattle.cyp_kernel.proofs.Examples.{empty_goal, empty_node}
@@ -35,7 +34,7 @@ use Rattle.cyp_kernel.specs.Correct.{MeetsPost}
 use Rattle.cyp_kernel.specs.Meets.{BodyMeets, IsNaming}
 use Rattle.cyp_kernel.specs.Naming.{Names}
 use Rattle.cyp_kernel.specs.Steady.{IsSteady}
-use Rattle.cyp_prog.specs.Programs.{Body, Choosing, End, Failing, Giving, Loading, Procedure, Storing, Taking, Then}
+use Rattle.cyp_prog.specs.Programs.{End, Failing, Giving, Loading, Procedure, Storing, Taking, Then}
 use Rattle.cyp_prog.specs.declared.stmt.Expr.{Expr}
 use Rattle.cyp_step.specs.Step.{raws}
 use Rattle.cyp_step.specs.Unfolding.{open_link}
@@ -45,7 +44,6 @@ use Rattle.cyp_term.specs.Integers.{all_cases, both, eliminate, eliminate_all, f
 use Rattle.cyp_term.specs.Meaning.{Assignment, value}
 use Rattle.cyp_term.specs.Regions.{all_set_vars, all_terms, regions_fit}
 use Rattle.cyp_term.specs.Terms.{lits_vars, number_term, sort_eq, var_eq, var_in, var_term}
-use Rattle.cyp_term.specs.declared.lit.Lit.{Lit}
 use Rattle.cyp_term.specs.declared.lit.Lit.TheVariants.{Eq, Lt}
 use Rattle.cyp_term.specs.declared.term.Sort.TheVariants.{Card, Int}
 use Rattle.cyp_term.specs.declared.term.Term.{Term}

@@ -1,13 +1,13 @@
 -- Open is sound: the clause that holds is the one whose guard is true, and its premise's body runs.
-use Rattle.std.proofs.Common.{◌≡◌, refl, sym, ap, ◌∙◌, ℕ, zero, suc, ◌≤◌, inl, inr, Bool, true, ◌&&◌, List, [], ◌∷◌, ◌++◌, map, flat_map, length, Option, Some, None, ℤ, pos, subst}
-use Rattle.std.specs.Prelude.{nat_lt, slice_get}
+use Rattle.std.proofs.Common.{◌≡◌, refl, sym, ap, ◌∙◌, ℕ, zero, suc, inl, inr, Bool, true, List, [], ◌∷◌, ◌++◌, map, flat_map, length, Option, Some, pos, subst}
+use Rattle.std.specs.Prelude.{slice_get}
 use Rattle.std.specs.List.{list_all}
 use Rattle.std.proofs.lemmas.Bool.{and_from, and_parts}
 use Rattle.std.proofs.lemmas.Option.{none-some, same_Some}
-use Rattle.cyp_goal.proofs.EachVar.{Each, EachPart, each_part}
+use Rattle.cyp_goal.proofs.EachVar.{EachPart, each_part}
 use Rattle.cyp_heap.proofs.Guards.{guards_law}
 use Rattle.cyp_heap.specs.Assertions.{CardIs, SideHolds}
-use Rattle.cyp_heap.specs.Chunks.{arg_vars, card_vars, chunk_vars, chunks_vars, put_all, without}
+use Rattle.cyp_heap.specs.Chunks.{arg_vars, card_vars, chunk_vars, put_all, without}
 use Rattle.cyp_heap.specs.Instances.{InstanceHolds, Instances, arg_value}
 use Rattle.cyp_heap.specs.Laws.{SameArgValues}
 use Rattle.cyp_heap.specs.PredsFormed.{IsFormedPreds}
@@ -21,7 +21,7 @@ use Rattle.cyp_heap.specs.declared.pred.Pred.{Pred}
 use Rattle.cyp_kernel.proofs.AgreeVars.{AgreeAt, chunk_sorted, lits_by_vars, same_by_vars, side_by_vars}
 use Rattle.cyp_kernel.proofs.Allowed.{where_true_parts}
 use Rattle.cyp_kernel.proofs.BodyRuns.{same_post}
-use Rattle.cyp_kernel.proofs.ChunkOrder.{AllHold, FirstOut, place_out, put_all_holds}
+use Rattle.cyp_kernel.proofs.ChunkOrder.{AllHold, place_out, put_all_holds}
 use Rattle.cyp_kernel.proofs.ClauseAgrees.{guard_at}
 use Rattle.cyp_kernel.proofs.ForgetVars.{among_from_in, met_by_others}
 use Rattle.cyp_kernel.proofs.GoalFacts.{true_join}
@@ -29,14 +29,13 @@ use Rattle.cyp_kernel.proofs.GuardTests.{GoesRight, choose_right}
 use Rattle.cyp_kernel.proofs.NewNumber.{old_parts}
 use Rattle.cyp_kernel.proofs.OldVars.{IsOld, old_vars}
 use Rattle.cyp_kernel.proofs.Opened.{number_old, opened, opened_old}
-use Rattle.cyp_kernel.proofs.OpenedHolds.{EntryHolds, card_there, entry_holds}
+use Rattle.cyp_kernel.proofs.OpenedHolds.{card_there, entry_holds}
 use Rattle.cyp_kernel.proofs.SteadyParts.{chunk_sorted_at, chunk_vars_among, pre_chunk_fits, sorted_goal}
-use Rattle.cyp_kernel.specs.Meets.{AreNamed, BodyMeets}
+use Rattle.cyp_kernel.specs.Meets.{BodyMeets}
 use Rattle.cyp_kernel.specs.Naming.{Names}
 use Rattle.cyp_kernel.specs.RuleLaws.{AllMeet, RuleLaw}
 use Rattle.cyp_kernel.specs.Statements.{choose, guards}
 use Rattle.cyp_kernel.specs.Steady.{IsSteady}
-use Rattle.cyp_machine.specs.Values.{Values}
 use Rattle.cyp_pred.specs.Unfold.{clauses_of, int_args, set_args, unfold_clause, unfold_inst}
 use Rattle.cyp_pred.specs.declared.unfolded.Next.{Next}
 use Rattle.cyp_pred.specs.declared.unfolded.Unfolded.{Unfolded}
@@ -45,8 +44,7 @@ use Rattle.cyp_step.specs.Changes.{next_of, pre_of}
 use Rattle.cyp_step.specs.Unfolding.{is_testable, open_link, open_premise, raw_open}
 use Rattle.cyp_step.specs.declared.rule.Rule.TheVariants.{ByOpen}
 use Rattle.cyp_term.proofs.Lists.{Among, Among-right, each_at, each_from, flat_in, flat_out}
-use Rattle.cyp_term.specs.Meaning.{AllTrue, Assignment, Truth}
-use Rattle.cyp_term.specs.Terms.{var_in}
+use Rattle.cyp_term.specs.Meaning.{Assignment, Truth}
 use Rattle.cyp_term.specs.declared.lit.Lit.{Lit}
 use Rattle.cyp_term.specs.declared.term.Var.{Var}
 

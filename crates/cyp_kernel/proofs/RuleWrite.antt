@@ -1,5 +1,5 @@
 -- Write is sound: the cell is there, and it gets the content that the focus has.
-use Rattle.std.proofs.Common.{◌≡◌, sym, ap, ◌∙◌, ℕ, zero, suc, ◌≤◌, [], ◌∷◌, ◌++◌, List, None, Option, Some, true, ℤ, subst}
+use Rattle.std.proofs.Common.{◌≡◌, sym, ap, ◌∙◌, ℕ, zero, suc, ◌≤◌, [], ◌∷◌, ◌++◌, List, Option, Some, true, ℤ, subst}
 use Rattle.std.specs.FinMap.{get}
 use Rattle.std.specs.Prelude.{is_some, slice_get, slice_set}
 use Rattle.std.proofs.lemmas.Bool.{and_parts}
@@ -30,7 +30,6 @@ use Rattle.cyp_step.specs.FlatRules.{raw_write}
 use Rattle.cyp_step.specs.Shown.{is_program_expr}
 use Rattle.cyp_step.specs.declared.rule.Rule.TheVariants.{ByWrite}
 use Rattle.cyp_term.specs.Meaning.{value}
-use Rattle.cyp_term.specs.declared.term.Term.{Term}
 use Rattle.cyp_unify.specs.Frames.{focus}
 
 abbrev written_node : Node → ℕ → CellAt → CellAt → Node
