@@ -81,10 +81,10 @@ module _ (inst : Instances) (s : Assignment) where
       cond_both (nat_lt (kind_rank c) (kind_rank d)) (c ∷ d ∷ ds) (d ∷ put ds c) (λ (xs : List Chunk). AllHold xs h → FirstOut c (d ∷ ds) h)
       (λ e m. first_out c (d ∷ ds) h m)
       (λ e m.
-          let f = first_out d (put ds c) h m in
-          let g = put_out ds c f.rest f.others in
-          let r = regrouped h f.part f.rest g.part g.rest f.union g.union in
-          record { part = g.part; rest = beside f.part g.rest; union = r.0; one = g.one; others = first_holds d ds (beside f.part g.rest) f.part g.rest r.1 f.one g.others })
+      let f = first_out d (put ds c) h m in
+      let g = put_out ds c f.rest f.others in
+      let r = regrouped h f.part f.rest g.part g.rest f.union g.union in
+      record { part = g.part; rest = beside f.part g.rest; union = r.0; one = g.one; others = first_holds d ds (beside f.part g.rest) f.part g.rest r.1 f.one g.others })
       k
 
   pub put_all_out : (cs ds : List Chunk) (h : Store) → AllHold (put_all cs ds) h → PutOut cs ds h

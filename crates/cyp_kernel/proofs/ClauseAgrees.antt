@@ -150,7 +150,7 @@ module _ (preds : Preds) (formed : IsFormedPreds preds) (j : InstOf) (next : Nex
             | inl h ↦ (params_at c values_of kept).numbers i (omega arith) (least i p h)
             | inr h ↦
                 own_numbers (clause_subst j.args c next) values_of p next.ints (own_ints j.args c) (ints_behind (int_args j.args) (map var_term (new_ints next.ints (own_ints j.args c)))) i h
-                    (own_below p c.ints i h l)
+                (own_below p c.ints i h l)
                 ∙ new_number next p (length (set_args j.args)) ns s w (i - p)
                 ∙ ap (λ (y : ℕ). w.number (int_var y)) (back_again p i h)
           ]
@@ -162,7 +162,7 @@ module _ (preds : Preds) (formed : IsFormedPreds preds) (j : InstOf) (next : Nex
             | inl h ↦ (params_at c values_of kept).sets i (omega arith) (least i p h)
             | inr h ↦ λ z. ap (int_in z)
                 (own_sets_same (clause_subst j.args c next) values_of p next.sets (own_sets j.args c) (sets_behind (set_args j.args) (map set_var (new_sets next.sets (own_sets j.args c)))) i h
-                    (own_below p c.sets i h l)
+                (own_below p c.sets i h l)
                 ∙ new_members next (length (int_args j.args)) p ns s w (i - p)
                 ∙ ap (λ (y : ℕ). w.members (set_numbered y)) (back_again p i h))
           ]
@@ -175,7 +175,7 @@ module _ (preds : Preds) (formed : IsFormedPreds preds) (j : InstOf) (next : Nex
       clause_value : (t : Term) → Among t (clause_terms c) → value w t ≡ value applied_to t
       clause_value t m =
           sym (term_same applied_to w t (λ v i.
-              number_below applied_to w c.ints clause_number v (each_at (is_below Int c.ints) v (flat_map term_vars (clause_terms c)) closed.0 (flat_in term_vars v t (clause_terms c) m i))))
+          number_below applied_to w c.ints clause_number v (each_at (is_below Int c.ints) v (flat_map term_vars (clause_terms c)) closed.0 (flat_in term_vars v t (clause_terms c) m i))))
 
       clause_set : (v : Var) → Among v (clause_set_vars c) → SameMembers (w.members v) (applied_to.members v)
       clause_set v m z = sym (members_below applied_to w c.sets clause_members v (each_at (is_below Set c.sets) v (clause_set_vars c) closed.1 m) z)

@@ -51,7 +51,6 @@ written_right h a b at v w u e = union_sym (written h at w) (written b at w) a (
 cell_in : (a : Store) (at v : ℤ) → IsCell a at v → get a.cells at ≡ Some v
 cell_in a at v c = ap (λ (m : FinMap int_cmp ℤ). get m at) c.1 ∙ get_single at v
 
-
 module _ (inst : Instances) (s : Assignment) where
   -- ---- the cell's heap, where the first chunk is a cell
   first_cell : (j c : CellAt) (a : Store) → Some (Cell j) ≡ Some (Cell c) → IsCell a (value s j.at) (value s j.content) → IsCell a (value s c.at) (value s c.content)

@@ -121,4 +121,3 @@ module _ (inst : Instances) where
   one_same r s t (Block b) (Cell c) a e k = absurd e
   one_same r s t (Cell b) (Inst j) a e k = absurd e
   one_same r s t (Cell b) (Block c) a e k = absurd e
-

@@ -139,7 +139,7 @@ by_alloc ps n ms bs names procs next k steady formed naming is callees all s h n
   where
     go : (size' size : ℕ) → size' ≡ size
         → ((a : ℤ) (zs : List ℤ) → length zs ≡ size → IsFree h a size
-            → (j : ℕ) (u : State) → j ≤ k → Run ps j (body_state (taken h a size zs) ((next, a) ∷ vs) (first_body bs)) u → MeetsSoFar n.preds n.goal s u)
+        → (j : ℕ) (u : State) → j ≤ k → Run ps j (body_state (taken h a size zs) ((next, a) ∷ vs) (first_body bs)) u → MeetsSoFar n.preds n.goal s u)
         → (m : ℕ) (t : State) → m ≤ k → Run ps m (body_state h vs (Then (Taking next size') (first_body bs))) t → MeetsSoFar n.preds n.goal s t
     go size' size e after zero t le r = begun_run n.preds n.goal s h vs (Taking next size') (first_body bs) t refl r
     go size' size e after (suc j) t le r =

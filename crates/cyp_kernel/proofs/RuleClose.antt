@@ -74,9 +74,12 @@ fewer_exist : (preds : Preds) (g : Goal) (s t : Assignment) (own : List Var) (h 
     → Each (λ v. var_in v own ≡ false) (lits_vars g.pure_post) → Each (λ v. var_in v own ≡ false) (chunks_vars g.post.chunks)
     → AgreeBeside (g.exist ++ own) s t → SideHolds preds t g.pure_post g.post.chunks h ns → MeetsPost preds g s h
 fewer_exist preds g s t own h ns lits chunks a b beside k =
-    let u : Assignment = mixed g.exist s t in
-    (u, ns, (λ v out. mixed_out g.exist s t v.sort v out),
-    side_by_vars t u preds g.pure_post g.post.chunks h ns lits chunks (λ v m. kept v (var_in v g.exist) refl (a v m)) (λ v m. kept v (var_in v g.exist) refl (b v m)) k)
+    let u : Assignment = mixed g.exist s t in (
+      u,
+      ns,
+      (λ v out. mixed_out g.exist s t v.sort v out),
+      side_by_vars t u preds g.pure_post g.post.chunks h ns lits chunks (λ v m. kept v (var_in v g.exist) refl (a v m)) (λ v m. kept v (var_in v g.exist) refl (b v m)) k,
+    )
   where
     kept : (v : Var) (o : Bool) → var_in v g.exist ≡ o → var_in v own ≡ false → AgreeBy v.sort t (mixed g.exist s t) v
     kept v true e new = mixed_at g.exist s t v (among_from_in v g.exist e)

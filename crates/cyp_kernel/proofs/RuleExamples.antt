@@ -202,8 +202,7 @@ module _ (ps : List Procedure) (k : ℕ) where
 
   unread_meets : BodyMeets ps empty_node.preds unread names k (Then (Loading 2 v1) End)
   unread_meets =
-      by_read 0 ps (plain unread) (plain read ∷ []) (End ∷ []) names [] 2 k (unlinked_steady empty_node.preds unread refl refl refl refl refl refl) no_preds named unread_premises tt
-      (
+      by_read 0 ps (plain unread) (plain read ∷ []) (End ∷ []) names [] 2 k (unlinked_steady empty_node.preds unread refl refl refl refl refl refl) no_preds named unread_premises tt (
         end_meets empty_node.preds read (names ++ (z, 2) ∷ []) (λ s h ms pre. (
           s,
           ms,
@@ -257,8 +256,7 @@ module _ (ps : List Procedure) (k : ℕ) where
 
   wanted_meets : BodyMeets ps empty_node.preds wanted names k (Then (Taking 2 1) End)
   wanted_meets =
-      by_alloc ps (plain wanted) (plain taken ∷ []) (End ∷ []) names [] 2 k (unlinked_steady empty_node.preds wanted refl refl refl refl refl refl) no_preds named wanted_premises tt
-      (
+      by_alloc ps (plain wanted) (plain taken ∷ []) (End ∷ []) names [] 2 k (unlinked_steady empty_node.preds wanted refl refl refl refl refl refl) no_preds named wanted_premises tt (
         end_meets empty_node.preds taken (names ++ (base, 2) ∷ []) (λ s h ms pre. (
           chosen s,
           ms,
@@ -281,8 +279,7 @@ module _ (ps : List Procedure) (k : ℕ) where
 
   equal_meets : BodyMeets ps empty_node.preds equal names k End
   equal_meets =
-      by_pick x ps (plain equal) (plain picked ∷ []) (End ∷ []) names [] 2 k (unlinked_steady empty_node.preds equal refl refl refl refl refl refl) no_preds named equal_premises tt
-      (
+      by_pick x ps (plain equal) (plain picked ∷ []) (End ∷ []) names [] 2 k (unlinked_steady empty_node.preds equal refl refl refl refl refl refl) no_preds named equal_premises tt (
         end_meets empty_node.preds picked names (λ s h ms pre. (
           mixed (y ∷ []) s (record { number = λ v. s.number x; members = s.members }),
           ms,

@@ -196,7 +196,7 @@ by_open i ps n ms bs names procs new k steady formed naming is callees all s h n
     let chosen : GoesRight ps n.preds n.goal s h vs k (choose names (map guard_of entries) bs) =
     choose_right ps n.preds n.goal names s h vs k named (map guard_of entries) bs o.place u.guard met.0 tests (map_at guard_of entries o.place u entry_is) met.1 o.guard
     (λ p l e x.
-        let a = map_out guard_of entries p l e in
-        let b = map_out (unfold_clause j next) o.pred.clauses p a.0 a.1 in
-        o.alone p b.0 b.1 (subst (λ (y : Lit). Truth s y) (a.2 ∙ ap guard_of b.2) x)) right in
+    let a = map_out guard_of entries p l e in
+    let b = map_out (unfold_clause j next) o.pred.clauses p a.0 a.1 in
+    o.alone p b.0 b.1 (subst (λ (y : Lit). Truth s y) (a.2 ∙ ap guard_of b.2) x)) right in
     subst (λ (gs : List Lit). GoesRight ps n.preds n.goal s h vs k (choose names gs bs)) (sym (ap (guards n) w.1 ∙ ap (map guard_of) listed)) chosen
