@@ -4,6 +4,7 @@ pub mod BodyRuns
 pub mod BoundAlone
 pub mod BoundEquation
 pub mod BoundGrowth
+pub mod CallRuns
 pub mod ChunkOrder
 pub mod ClauseAgrees
 pub mod ClosedPrograms
