@@ -1,5 +1,6 @@
 pub mod AgreeVars
 pub mod Allowed
+pub mod Bindings
 pub mod BodyRuns
 pub mod BoundAlone
 pub mod BoundEquation
@@ -39,3 +40,4 @@ pub mod RuleRead
 pub mod RuleWrite
 pub mod SteadyParts
 pub mod UnfoldParams
+pub mod WalkFinds
