@@ -26,6 +26,7 @@ pub mod Offsets
 pub mod OldVars
 pub mod Opened
 pub mod OpenedHolds
+pub mod PairsOut
 pub mod ParamsAgree
 pub mod RuleAlloc
 pub mod RuleClose
