@@ -4,9 +4,11 @@ pub mod Companions
 pub mod Compile
 pub mod Correct
 pub mod Laws
+pub mod Meaning
 pub mod Meets
 pub mod Naming
 pub mod Narrow
+pub mod NormalSteady
 pub mod RuleLaws
 pub mod Statements
 pub mod Steady

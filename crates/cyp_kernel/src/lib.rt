@@ -3,9 +3,14 @@
 #![tactic(auto)]
 
 mod laws;
+mod meaning;
 mod rules;
 
 pub use laws::{
     bound_grows, bound_in_one_line, lower_measure_is_bounded, program_of_derivation_is_closed,
+};
+pub use meaning::{
+    formed_goal_is_ready, normal_form_is_ready, normal_form_is_steady, normal_form_keeps_bodies,
+    normal_form_keeps_meaning, numbering_keeps_meaning, sorts_are_needed, steps_keep_meaning,
 };
 pub use rules::{flat_rules_are_sound, unfolding_rules_are_sound};
