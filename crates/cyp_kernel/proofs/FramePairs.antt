@@ -25,10 +25,10 @@ use Rattle.cyp_unify.specs.declared.found.Pair.{Pair}
 
 -- ---- chunks that are made equal
 
-int_is_set : Int ≡ Set → ⊥
+pub int_is_set : Int ≡ Set → ⊥
 int_is_set e = cc
 
-sort_is : (a b : Sort) → sort_eq a b ≡ true → a ≡ b
+pub sort_is : (a b : Sort) → sort_eq a b ≡ true → a ≡ b
 sort_is a b e = (Decides-sort_eq a b).0 e
 
 args_same : (t : Assignment) (as' bs : List Arg) (ps : List Sort) → sorts_fit as' ps ≡ true → sorts_fit bs ps ≡ true → AllTrue t (arg_equalities as' bs)

@@ -34,6 +34,7 @@ pub mod Offsets
 pub mod OldVars
 pub mod Opened
 pub mod OpenedHolds
+pub mod PairedChunks
 pub mod PairsOut
 pub mod ParamsAgree
 pub mod PassedVars
@@ -53,6 +54,7 @@ pub mod SidesAgree
 pub mod SolveMeaning
 pub mod SolvedTruth
 pub mod SteadyParts
+pub mod StoreRuns
 pub mod TidyMeaning
 pub mod UnfoldParams
 pub mod UnsortedMeaning
