@@ -1,10 +1,10 @@
 -- The chunks of a companion's precondition and those that are paired with them.
-use Rattle.std.proofs.Common.{◌≡◌, refl, sym, ap, ◌∙◌, ℕ, ◌⊎◌, inl, inr, Bool, true, false, not, ◌&&◌, List, [], ◌∷◌, ◌++◌, map, ℤ, pos, ◌+ℤ◌, Option, Some, None, subst}
-use Rattle.std.specs.Prelude.{◌==◌, option_map, slice_get}
+use Rattle.std.proofs.Common.{◌≡◌, refl, sym, ◌∙◌, ℕ, ◌⊎◌, Bool, true, false, not, ◌&&◌, List, [], ◌∷◌, ◌++◌, map, Option, Some, None, subst}
+use Rattle.std.specs.Prelude.{◌==◌, slice_get}
 use Rattle.std.specs.List.{AllByRecursion, list_any}
 use Rattle.std.proofs.lemmas.Bool.{and_parts, eqb-true, false≢true, not-true}
 use Rattle.std.proofs.lemmas.Option.{none-some, same_Some}
-use Rattle.cyp_heap.specs.Formed.{fits_pred, inst_fits, is_card_var, sorts_fit}
+use Rattle.cyp_heap.specs.Formed.{fits_pred, sorts_fit}
 use Rattle.cyp_heap.specs.Instances.{arg_value}
 use Rattle.cyp_heap.specs.Laws.{SameArgValues}
 use Rattle.cyp_heap.specs.declared.chunk.Arg.{Arg}
@@ -14,16 +14,15 @@ use Rattle.cyp_heap.specs.declared.chunk.Chunk.TheVariants.{Block, Cell, Inst}
 use Rattle.cyp_heap.specs.declared.chunk.InstOf.{InstOf}
 use Rattle.cyp_heap.specs.declared.pred.Pred.{Pred}
 use Rattle.cyp_heap.specs.declared.pred.Preds.{Preds}
-use Rattle.cyp_kernel.proofs.Allowed.{mapped_some, taken_some, taken_true}
+use Rattle.cyp_kernel.proofs.Allowed.{mapped_some, taken_some}
 use Rattle.cyp_kernel.proofs.FramePairs.{InstFits, int_is_set, sort_is}
 use Rattle.cyp_kernel.proofs.PairsOut.{ArePlaces, is_taken}
 use Rattle.cyp_kernel.proofs.WalkFinds.{IsMended, PositionHolds}
 use Rattle.cyp_term.proofs.Lists.{Every-left, Every-right}
 use Rattle.cyp_term.specs.Meaning.{Assignment, value}
-use Rattle.cyp_term.specs.Terms.{sort_eq, var_term}
+use Rattle.cyp_term.specs.Terms.{sort_eq}
 use Rattle.cyp_term.specs.declared.term.Sort.{Sort}
 use Rattle.cyp_term.specs.declared.term.Sort.TheVariants.{Int, Set}
-use Rattle.cyp_term.specs.declared.term.Var.{Var}
 use Rattle.cyp_unify.specs.Frames.{alike}
 use Rattle.cyp_unify.specs.Matches.{Position, arg_positions, card_position, pair_positions, positions}
 use Rattle.cyp_unify.specs.declared.found.Mend.{Mend}
