@@ -1,15 +1,16 @@
 -- Chunks put among others, in heaps put together.
-use Rattle.std.proofs.Common.{◌≡◌, refl, sym, ℕ, List, [], ◌∷◌, map, nat_lt, subst}
+use Rattle.std.proofs.Common.{◌≡◌, refl, sym, ℕ, zero, suc, Some, List, [], ◌∷◌, map, nat_lt, subst}
+use Rattle.std.specs.Prelude.{slice_get}
 use Rattle.std.proofs.lemmas.Bool.{cond_both}
+use Rattle.std.proofs.lemmas.Option.{none-some, same_Some}
 use Rattle.cyp_heap.proofs.Unions.{beside_nothing}
 use Rattle.cyp_heap.specs.Assertions.{CardIs, CardsAre}
-use Rattle.cyp_heap.specs.Chunks.{kind_rank, put, put_all}
+use Rattle.cyp_heap.specs.Chunks.{kind_rank, put, put_all, without}
 use Rattle.cyp_heap.specs.Instances.{ChunksHold, Instances, arg_value}
 use Rattle.cyp_heap.specs.Stores.{IsBlock, IsCell, IsUnion, Store, no_store}
 use Rattle.cyp_heap.specs.declared.chunk.Chunk.{Chunk}
 use Rattle.cyp_heap.specs.declared.chunk.Chunk.TheVariants.{Block, Cell, Inst}
-use Rattle.cyp_kernel.proofs.HeapParts.{beside, regrouped, union_sym}
-use Rattle.cyp_kernel.proofs.HeapRemoved.{union_with_none}
+use Rattle.cyp_kernel.proofs.HeapParts.{beside, regrouped, union_sym, union_with_none}
 use Rattle.cyp_term.specs.Meaning.{Assignment, value}
 
 module _ (inst : Instances) (s : Assignment) where
@@ -80,10 +81,10 @@ module _ (inst : Instances) (s : Assignment) where
       cond_both (nat_lt (kind_rank c) (kind_rank d)) (c ∷ d ∷ ds) (d ∷ put ds c) (λ (xs : List Chunk). AllHold xs h → FirstOut c (d ∷ ds) h)
       (λ e m. first_out c (d ∷ ds) h m)
       (λ e m.
-          let f = first_out d (put ds c) h m in
-          let g = put_out ds c f.rest f.others in
-          let r = regrouped h f.part f.rest g.part g.rest f.union g.union in
-          record { part = g.part; rest = beside f.part g.rest; union = r.0; one = g.one; others = first_holds d ds (beside f.part g.rest) f.part g.rest r.1 f.one g.others })
+      let f = first_out d (put ds c) h m in
+      let g = put_out ds c f.rest f.others in
+      let r = regrouped h f.part f.rest g.part g.rest f.union g.union in
+      record { part = g.part; rest = beside f.part g.rest; union = r.0; one = g.one; others = first_holds d ds (beside f.part g.rest) f.part g.rest r.1 f.one g.others })
       k
 
   pub put_all_out : (cs ds : List Chunk) (h : Store) → AllHold (put_all cs ds) h → PutOut cs ds h
@@ -99,3 +100,14 @@ module _ (inst : Instances) (s : Assignment) where
         new = first_holds d ds (beside o.part f.part) f.part o.part (union_sym (beside o.part f.part) o.part f.part r.1) f.one o.new;
         old = f.others;
       }
+
+  -- ---- the chunk at a place
+
+  pub place_out : (cs : List Chunk) (i : ℕ) (c : Chunk) (h : Store) → slice_get cs i ≡ Some c → AllHold cs h → FirstOut c (without cs i) h
+  place_out [] i c h e k = absurd (none-some c e)
+  place_out (d ∷ cs) zero c h e k = subst (λ (x : Chunk). FirstOut x cs h) (same_Some d c e) (first_out d cs h k)
+  place_out (d ∷ cs) (suc i) c h e k =
+      let f = first_out d cs h k in
+      let g = place_out cs i c f.rest e f.others in
+      let r = regrouped h f.part f.rest g.part g.rest f.union g.union in
+      record { part = g.part; rest = beside f.part g.rest; union = r.0; one = g.one; others = first_holds d (without cs i) (beside f.part g.rest) f.part g.rest r.1 f.one g.others }

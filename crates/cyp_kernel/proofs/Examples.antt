@@ -64,10 +64,10 @@ measure_with_lead = refl
 
 -- ---- the derivation of `{ emp } { emp }` by Emp alone
 
-abbrev empty_goal : Goal
+abbrev pub empty_goal : Goal
 empty_goal = record { program = []; exist = []; pure_pre = []; pre = record { chunks = [] }; pure_post = []; post = record { chunks = [] } }
 
-abbrev empty_node : Node
+abbrev pub empty_node : Node
 empty_node = record { preds = record { list = [] }; goal = empty_goal; links = [] }
 
 abbrev by_emp : Proof

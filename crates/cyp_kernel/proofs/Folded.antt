@@ -1,7 +1,6 @@
 -- An instance holds where the unfolding of one of its clauses does.
-use Rattle.std.proofs.Common.{◌≡◌, refl, sym, ap, ◌∙◌, ℕ, zero, suc, ◌<◌, Bool, true, List, [], ◌∷◌, ◌++◌, map, length, Option, Some, None, arith, subst}
+use Rattle.std.proofs.Common.{◌≡◌, refl, sym, ℕ, zero, suc, ◌<◌, true, List, [], ◌∷◌, map, length, Option, Some, None, arith, subst}
 use Rattle.std.specs.Prelude.{slice_get}
-use Rattle.std.proofs.lemmas.Bool.{false≢true}
 use Rattle.std.proofs.lemmas.Option.{none-some, same_Some}
 use Rattle.cyp_heap.proofs.Applied.{apply_chunks_law}
 use Rattle.cyp_heap.proofs.Bounds.{below_from_height, bound_law, chunks_map}
@@ -68,23 +67,26 @@ module _ (preds : Preds) (j : InstOf) (next : Next) (q : Pred) (at : slice_get p
       let s : Assignment = under by t in
       let n : ℕ = height_above ns in
       let plain = untagged (InstanceHolds preds) t j.card (suc j.tag) next.cards (map (apply_chunk by) c.heap.chunks) h ns chunks in
-      let applied : ChunksHold (InstanceHolds preds) s c.heap.chunks h ns = (apply_chunks_law preds by t c.heap.chunks h ns).0 plain in
-      (q, at, (
-        k,
-        c,
-        s,
-        ns,
-        e,
-        params_are by t 0 0 j.args q.params (fitting_args j (slice_get preds.list j.pred) q at fits)
-            (ints_bound 0 (int_args j.args) (map var_term (new_ints next.ints (own_ints j.args c))))
-            (sets_bound 0 (set_args j.args) (map set_var (new_sets next.sets (own_sets j.args c)))),
-        (apply_law by t c.guard).0 guard,
-        all_applied by t c.lits
-            (true_left t (map (apply_lit by) c.lits) (below_card j.card (count_from next.cards (length (insts (map (apply_chunk by) c.heap.chunks))))) lits),
-        chunks_map (InstanceHolds preds) (HoldsBelow preds n) s n (λ p xs a m l o. bound_law preds (suc m) n p xs a m o l) c.heap.chunks h ns
-            (below_from_height n ns (above n)) applied,
-        refl,
-      ))
+      let applied : ChunksHold (InstanceHolds preds) s c.heap.chunks h ns = (apply_chunks_law preds by t c.heap.chunks h ns).0 plain in (
+        q,
+        at,
+        (
+          k,
+          c,
+          s,
+          ns,
+          e,
+          params_are by t 0 0 j.args q.params (fitting_args j (slice_get preds.list j.pred) q at fits)
+              (ints_bound 0 (int_args j.args) (map var_term (new_ints next.ints (own_ints j.args c))))
+              (sets_bound 0 (set_args j.args) (map set_var (new_sets next.sets (own_sets j.args c)))),
+          (apply_law by t c.guard).0 guard,
+          all_applied by t c.lits
+              (true_left t (map (apply_lit by) c.lits) (below_card j.card (count_from next.cards (length (insts (map (apply_chunk by) c.heap.chunks))))) lits),
+          chunks_map (InstanceHolds preds) (HoldsBelow preds n) s n (λ p xs a m l o. bound_law preds (suc m) n p xs a m o l) c.heap.chunks h ns
+              (below_from_height n ns (above n)) applied,
+          refl,
+        ),
+      )
     where
       above : (n : ℕ) → n < suc n
       above n = omega arith

@@ -1,14 +1,13 @@
 -- A postcondition that is met from other values of variables that don't stand in it is met from these.
 use Rattle.std.proofs.Common.{◌≡◌, refl, sym, ap, ◌∙◌, inl, inr, Bool, true, false, cond, List, ◌++◌}
-use Rattle.std.specs.List.{list_all, list_any}
-use Rattle.std.proofs.lemmas.Bool.{false≢true}
+use Rattle.std.specs.List.{list_all}
 use Rattle.cyp_goal.proofs.EachVar.{Each, first, second}
 use Rattle.cyp_heap.specs.Chunks.{chunks_vars}
 use Rattle.cyp_heap.specs.Stores.{Store}
 use Rattle.cyp_heap.specs.declared.goal.Goal.{Goal}
 use Rattle.cyp_heap.specs.declared.pred.Preds.{Preds}
 use Rattle.cyp_kernel.proofs.AgreeVars.{AgreeAt, chunk_sorted, lit_sorted, side_by_vars}
-use Rattle.cyp_kernel.specs.Correct.{AgreeBeside, AgreeBy, MeetsPost}
+use Rattle.cyp_kernel.specs.Correct.{AgreeBy, MeetsPost}
 use Rattle.cyp_term.proofs.Equality.{Decides-var_eq}
 use Rattle.cyp_term.proofs.Lists.{Among, Among-cases, some_from, some_out}
 use Rattle.cyp_term.specs.Meaning.{Assignment, int_in}

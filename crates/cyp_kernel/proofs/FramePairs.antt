@@ -1,5 +1,5 @@
 -- The pairs of Frame: the focus with a chunk of the precondition, and what makes the two equal.
-use Rattle.std.proofs.Common.{◌≡◌, refl, sym, ap, ◌∙◌, ℕ, zero, suc, ◌+◌, ◌==◌, Bool, true, false, cond, List, [], ◌∷◌, map, filter, Option, Some, None, arith, subst}
+use Rattle.std.proofs.Common.{◌≡◌, refl, sym, ap, ◌∙◌, ℕ, suc, ◌+◌, ◌==◌, Bool, true, false, cond, List, [], ◌∷◌, map, filter, Option, Some, None, arith, subst}
 use Rattle.std.specs.Prelude.{slice_get}
 use Rattle.std.proofs.lemmas.Bool.{and_parts, eqb-true, false≢true}
 use Rattle.std.proofs.lemmas.Option.{none-some, same_Some}
@@ -25,10 +25,10 @@ use Rattle.cyp_unify.specs.declared.found.Pair.{Pair}
 
 -- ---- chunks that are made equal
 
-int_is_set : Int ≡ Set → ⊥
+pub int_is_set : Int ≡ Set → ⊥
 int_is_set e = cc
 
-sort_is : (a b : Sort) → sort_eq a b ≡ true → a ≡ b
+pub sort_is : (a b : Sort) → sort_eq a b ≡ true → a ≡ b
 sort_is a b e = (Decides-sort_eq a b).0 e
 
 args_same : (t : Assignment) (as' bs : List Arg) (ps : List Sort) → sorts_fit as' ps ≡ true → sorts_fit bs ps ≡ true → AllTrue t (arg_equalities as' bs)

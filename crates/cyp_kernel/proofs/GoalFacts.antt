@@ -1,12 +1,9 @@
 -- The facts of a goal are true where its precondition holds.
-use Rattle.std.proofs.Common.{◌≡◌, refl, sym, ap, ◌∙◌, ℕ, Bool, true, false, cond, not, ◌||◌, List, [], ◌∷◌, ◌++◌, flat_map, ℤ, Option, Some, subst}
+use Rattle.std.proofs.Common.{◌≡◌, sym, ap, ◌∙◌, ℕ, Bool, true, false, cond, not, ◌||◌, List, [], ◌∷◌, ◌++◌, flat_map, ℤ}
 use Rattle.std.specs.Prelude.{is_some}
 use Rattle.std.specs.Ordering.{int_cmp}
-use Rattle.std.specs.FinMap.{FinMap, empty, get, get-insert, insert}
-use Rattle.std.specs.Cmp.{int_cmp_total}
-use Rattle.std.specs.Ordering.{eq_by_cmp}
+use Rattle.std.specs.FinMap.{FinMap, get}
 use Rattle.std.proofs.lemmas.Bool.{false≢true}
-use Rattle.std.proofs.lemmas.Bool.Decides.{Decides-int_eq}
 use Rattle.cyp_goal.specs.Facts.{all_apart, apart, block_addresses, cell_addresses, facts}
 use Rattle.cyp_heap.proofs.Unions.{some_or_none, union_left}
 use Rattle.cyp_heap.specs.Assertions.{SideHolds}

@@ -1,5 +1,5 @@
 -- The tests of guards in a program, and the body that they choose.
-use Rattle.std.proofs.Common.{◌≡◌, refl, sym, ap, ◌∙◌, ℕ, zero, suc, ◌≤◌, Bool, true, false, cond, not, ◌&&◌, Decides, List, [], ◌∷◌, Option, Some, None, ℤ, ◌≤ℤ◌, ◌<ℤ◌, arith, subst}
+use Rattle.std.proofs.Common.{◌≡◌, refl, sym, ap, ◌∙◌, ℕ, zero, suc, ◌≤◌, Bool, true, false, cond, not, ◌&&◌, Decides, List, [], ◌∷◌, Some, ℤ, ◌≤ℤ◌, ◌<ℤ◌, arith, subst}
 use Rattle.std.specs.Prelude.{int_le, int_lt, slice_get}
 use Rattle.std.specs.List.{list_all}
 use Rattle.std.specs.Ordering.{int_eq}
@@ -19,7 +19,7 @@ use Rattle.cyp_machine.specs.Runs.{Run}
 use Rattle.cyp_machine.specs.States.{State}
 use Rattle.cyp_machine.specs.Steps.{followed_by}
 use Rattle.cyp_machine.specs.Values.{Values, expr_value, test_value}
-use Rattle.cyp_prog.specs.Programs.{Body, Choosing, End, Procedure, Statement, Then}
+use Rattle.cyp_prog.specs.Programs.{Body, Choosing, End, Procedure, Then}
 use Rattle.cyp_step.specs.Shown.{is_program_expr}
 use Rattle.cyp_step.specs.Unfolding.{is_testable}
 use Rattle.cyp_term.proofs.Numbers.{Decides-int_le}

@@ -1,5 +1,5 @@
 -- The heap of new cells.
-use Rattle.std.proofs.Common.{◌≡◌, refl, sym, ap, ◌∙◌, ℕ, zero, suc, Bool, true, false, cond, List, [], ◌∷◌, map, length, ℤ, pos, ◌+ℤ◌, ◌<ℤ◌, Option, Some, None, arith, subst}
+use Rattle.std.proofs.Common.{◌≡◌, refl, sym, ◌∙◌, ℕ, suc, List, [], ◌∷◌, map, length, ℤ, pos, ◌+ℤ◌, ◌<ℤ◌, Some, None, arith, subst}
 use Rattle.std.specs.Ordering.{int_cmp, eq_by_cmp}
 use Rattle.std.specs.Cmp.{int_cmp_total}
 use Rattle.std.specs.FinMap.{FinMap, empty, get, get-empty, get-insert, insert}
@@ -8,10 +8,11 @@ use Rattle.std.proofs.lemmas.Bool.Decides.{Decides-int_eq}
 use Rattle.std.proofs.lemmas.Int.{ints}
 use Rattle.cyp_heap.proofs.Unions.{empty_beside, one_beside}
 use Rattle.cyp_heap.specs.Instances.{Instances}
-use Rattle.cyp_heap.specs.Stores.{Store, no_store}
+use Rattle.cyp_heap.specs.Stores.{Store}
 use Rattle.cyp_heap.specs.declared.chunk.Chunk.TheVariants.{Cell}
 use Rattle.cyp_kernel.proofs.ChunkOrder.{AllHold, first_holds}
 use Rattle.cyp_kernel.proofs.NewNumber.{NumbersAre, int_var}
+use Rattle.cyp_kernel.proofs.Offsets.{plus-zero}
 use Rattle.cyp_machine.specs.Steps.{insert_all}
 use Rattle.cyp_pred.specs.Unfold.{new_ints}
 use Rattle.cyp_step.specs.FlatRules.{new_cells}
@@ -47,7 +48,7 @@ module _ (inst : Instances) (s : Assignment) where
   new_cells_hold t j k a (z ∷ zs) l e h =
       let one : Store = record { cells = insert no_cells a z; blocks = empty } in
       let here = one_beside (insert_all no_cells (a +ℤ pos 1) zs) a z (below_all zs (a +ℤ pos 1) a (up a)) in
-      let content : value s (var_term (int_var k)) ≡ z = plus_zero (s.number (int_var k)) ∙ h.0 in
+      let content : value s (var_term (int_var k)) ≡ z = plus-zero (s.number (int_var k)) ∙ h.0 in
       let at_back = sym e in
       let content_back = sym content in
       first_holds inst s (Cell (record { at = plus t (pos j); content = var_term (int_var k) })) (new_cells t (suc j) (map var_term (new_ints (suc k) (length zs)))) (cells_at a (z ∷ zs)) one (cells_at (a +ℤ pos 1) zs)
@@ -60,9 +61,6 @@ module _ (inst : Instances) (s : Assignment) where
 
       more : (a : ℤ) → pos 0 <ℤ a → pos 0 <ℤ (a +ℤ pos 1)
       more a l = omega (arith, ints)
-
-      plus_zero : (z : ℤ) → z +ℤ pos 0 ≡ z
-      plus_zero z = omega (arith, ints)
 
       next : (b o a : ℤ) (j : ℕ) → b +ℤ (o +ℤ pos j) ≡ a → b +ℤ (o +ℤ pos (suc j)) ≡ a +ℤ pos 1
       next b o a j e = omega (arith, ints)

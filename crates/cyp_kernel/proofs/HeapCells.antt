@@ -1,6 +1,6 @@
 -- One cell of a heap: read, and written.
-use Rattle.std.proofs.Common.{◌≡◌, refl, sym, ap, ◌∙◌, ℕ, zero, suc, Bool, true, false, cond, List, [], ◌∷◌, ℤ, Option, Some, None, subst}
-use Rattle.std.specs.Prelude.{is_some, slice_get, slice_set}
+use Rattle.std.proofs.Common.{◌≡◌, refl, sym, ap, ◌∙◌, ℕ, zero, suc, Bool, true, false, cond, List, [], ◌∷◌, ℤ, Option, Some, subst}
+use Rattle.std.specs.Prelude.{slice_get, slice_set}
 use Rattle.std.specs.Ordering.{int_cmp, eq_by_cmp}
 use Rattle.std.specs.Cmp.{int_cmp_total}
 use Rattle.std.specs.FinMap.{FinMap, get, insert, empty, get-insert, same_map, int_cmp-IsAntisymmetric}
@@ -50,7 +50,6 @@ written_right h a b at v w u e = union_sym (written h at w) (written b at w) a (
 
 cell_in : (a : Store) (at v : ℤ) → IsCell a at v → get a.cells at ≡ Some v
 cell_in a at v c = ap (λ (m : FinMap int_cmp ℤ). get m at) c.1 ∙ get_single at v
-
 
 module _ (inst : Instances) (s : Assignment) where
   -- ---- the cell's heap, where the first chunk is a cell

@@ -1,22 +1,15 @@
 -- Parts of heaps: unions built and regrouped, a chunk's heap taken out and put back.
-use Rattle.std.proofs.Common.{◌≡◌, refl, sym, ap, ◌∙◌, ℕ, zero, suc, ◌⊎◌, inl, inr, Bool, true, false, cond, List, [], ◌∷◌, map, ℤ, Option, Some, None, subst}
-use Rattle.std.specs.Prelude.{is_none, slice_get}
+use Rattle.std.proofs.Common.{◌≡◌, refl, sym, ap, ◌∙◌, ℕ, ◌⊎◌, inl, inr, Bool, true, false, cond, List, [], ◌∷◌, map, ℤ, Option, Some, None, subst}
 use Rattle.std.specs.Ordering.{int_cmp, eq_by_cmp}
 use Rattle.std.specs.Cmp.{int_cmp_total}
-use Rattle.std.specs.FinMap.{FinMap, get, insert, empty, entries, find, get-entries, get-insert}
-use Rattle.std.proofs.lemmas.Bool.{false≢true}
+use Rattle.std.specs.FinMap.{FinMap, get, insert, empty, entries, find, get-empty, get-entries, get-insert, int_cmp-IsAntisymmetric, same_map}
 use Rattle.std.proofs.lemmas.Bool.Decides.{Decides-int_eq}
-use Rattle.std.proofs.lemmas.Option.{none-some, same_Some}
 use Rattle.cyp_heap.proofs.SameChunks.{Respects, SameChunk}
-use Rattle.cyp_heap.specs.Assertions.{CardsAre}
-use Rattle.cyp_heap.specs.Chunks.{without}
-use Rattle.cyp_heap.specs.Instances.{ChunksHold, Instances, arg_value}
+use Rattle.cyp_heap.specs.Instances.{Instances, arg_value}
 use Rattle.cyp_heap.specs.Stores.{IsBlock, IsCell, IsDisjointUnion, IsUnion, Store}
-use Rattle.cyp_heap.specs.declared.chunk.Arg.{Arg}
 use Rattle.cyp_heap.specs.declared.chunk.Chunk.{Chunk}
 use Rattle.cyp_heap.specs.declared.chunk.Chunk.TheVariants.{Block, Cell, Inst}
 use Rattle.cyp_term.specs.Meaning.{Assignment, value}
-use Rattle.cyp_term.specs.declared.term.Var.{Var}
 
 -- ---- unions
 
@@ -89,6 +82,10 @@ module _ {A : Type 0} where
   abbrev no_entries : FinMap int_cmp A
   no_entries = empty
 
+  -- a map beside nothing
+  pub union_with_none : (all b : FinMap int_cmp A) → IsDisjointUnion all no_entries b → all ≡ b
+  union_with_none all b u = same_map int_cmp_total int_cmp-IsAntisymmetric all b (λ q. elim (u q) [ inl p ↦ p.1 | inr p ↦ p.1 ∙ get-empty int_cmp q ∙ sym p.0 ])
+
   -- a single entry
   pub get_single : (k : ℤ) (v : A) → get {R = int_cmp} (insert empty k v) k ≡ Some v
   get_single k v = get-insert int_cmp_total no_entries k v k ∙ ap (λ (t : Bool). cond t (Some v) (get no_entries k)) ((Decides-int_eq k k).1 refl)
@@ -113,56 +110,6 @@ module _ (inst : Instances) where
   OneHolds s (Block b) a = IsBlock a (value s b.at) b.size
   OneHolds s (Cell c) a = IsCell a (value s c.at) (value s c.content)
 
-  -- the chunk at a place, and the others
-  abbrev pub IsOut : Assignment → Chunk → List Chunk → Store → Type 0
-  IsOut s c rest h = (a : Store) × (b : Store) × (ns : List ℕ) × IsUnion h a b × OneHolds s c a × ChunksHold inst s rest b ns × CardsAre s rest ns
-
-  pub take_out : (s : Assignment) (cs : List Chunk) (i : ℕ) (c : Chunk) (h : Store) (ns : List ℕ) → slice_get cs i ≡ Some c
-      → ChunksHold inst s cs h ns → CardsAre s cs ns → IsOut s c (without cs i) h
-  take_out s [] i c h ns e k l = absurd (none-some c e)
-  take_out s (Inst j ∷ cs) zero c h ns e k l = (
-    k.0,
-    k.1,
-    k.3,
-    k.5,
-    subst (λ (d : Chunk). OneHolds s d k.0) (same_Some (Inst j) c e) (k.2, k.6),
-    k.7,
-    (subst (λ (ms : List ℕ). CardsAre s (Inst j ∷ cs) ms) k.4 l).1,
-  )
-  take_out s (Block j ∷ cs) zero c h ns e k l = (k.0, k.1, ns, k.2, subst (λ (d : Chunk). OneHolds s d k.0) (same_Some (Block j) c e) k.3, k.4, l)
-  take_out s (Cell j ∷ cs) zero c h ns e k l = (k.0, k.1, ns, k.2, subst (λ (d : Chunk). OneHolds s d k.0) (same_Some (Cell j) c e) k.3, k.4, l)
-  take_out s (Inst j ∷ cs) (suc i) c h ns e k l =
-      let m = subst (λ (ms : List ℕ). CardsAre s (Inst j ∷ cs) ms) k.4 l in
-      let o = take_out s cs i c k.1 k.3 e k.7 m.1 in
-      let r = regrouped h k.0 k.1 o.0 o.1 k.5 o.3 in
-      (o.0, beside k.0 o.1, k.2 ∷ o.2, r.0, o.4, (k.0, o.1, k.2, o.2, refl, r.1, k.6, o.5), (m.0, o.6))
-  take_out s (Block j ∷ cs) (suc i) c h ns e k l =
-      let o = take_out s cs i c k.1 ns e k.4 l in
-      let r = regrouped h k.0 k.1 o.0 o.1 k.2 o.3 in
-      (o.0, beside k.0 o.1, o.2, r.0, o.4, (k.0, o.1, r.1, k.3, o.5), o.6)
-  take_out s (Cell j ∷ cs) (suc i) c h ns e k l =
-      let o = take_out s cs i c k.1 ns e k.4 l in
-      let r = regrouped h k.0 k.1 o.0 o.1 k.2 o.3 in
-      (o.0, beside k.0 o.1, o.2, r.0, o.4, (k.0, o.1, r.1, k.3, o.5), o.6)
-
-  pub no_card_at : (s : Assignment) (p : ℕ) (xs : List Arg) (c : Option Var) (g : ℕ) (cs : List Chunk) (n : ℕ) (ns : List ℕ) → is_none c ≡ true → CardsAre s cs ns
-      → CardsAre s (Inst (record { pred = p; args = xs; card = c; tag = g }) ∷ cs) (n ∷ ns)
-  no_card_at s p xs None g cs n ns e k = (tt, k)
-  no_card_at s p xs (Some v) g cs n ns e k = absurd (false≢true e)
-
-  abbrev pub HasNoCard : Chunk → Type 0
-  HasNoCard (Inst i) = is_none i.card ≡ true
-  HasNoCard (Block b) = Unit {0}
-  HasNoCard (Cell c) = Unit {0}
-
-  -- a chunk without a cardinality before the others
-  pub put_first : (s : Assignment) (c : Chunk) (cs : List Chunk) (h a b : Store) (ns : List ℕ) → HasNoCard c → IsUnion h a b → OneHolds s c a
-      → ChunksHold inst s cs b ns → CardsAre s cs ns → (ms : List ℕ) × ChunksHold inst s (c ∷ cs) h ms × CardsAre s (c ∷ cs) ms
-  put_first s (Inst i) cs h a b ns none u o k l =
-      (o.0 ∷ ns, (a, b, o.0, ns, refl, u, o.1, k), no_card_at s i.pred i.args i.card i.tag cs o.0 ns none l)
-  put_first s (Block c) cs h a b ns none u o k l = (ns, (a, b, u, o, k), l)
-  put_first s (Cell c) cs h a b ns none u o k l = (ns, (a, b, u, o, k), l)
-
   pub one_same : Respects inst → (s t : Assignment) (c d : Chunk) (a : Store) → SameChunk s t c d → OneHolds s c a → OneHolds t d a
   one_same r s t (Inst i) (Inst j) a e k =
       (k.0, subst (λ (p : ℕ). inst p (map (arg_value t) j.args) a k.0) e.0 (r i.pred (map (arg_value s) i.args) (map (arg_value t) j.args) a k.0 e.1 k.1))
@@ -174,4 +121,3 @@ module _ (inst : Instances) where
   one_same r s t (Block b) (Cell c) a e k = absurd e
   one_same r s t (Cell b) (Inst j) a e k = absurd e
   one_same r s t (Cell b) (Block c) a e k = absurd e
-

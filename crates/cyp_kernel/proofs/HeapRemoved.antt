@@ -1,5 +1,5 @@
 -- Cells and blocks taken from a heap.
-use Rattle.std.proofs.Common.{◌≡◌, refl, sym, ap, ◌∙◌, ℕ, zero, suc, ◌+◌, ◌⊎◌, inl, inr, Bool, true, false, cond, List, [], ◌∷◌, map, ℤ, pos, ◌+ℤ◌, Option, Some, None, arith, subst}
+use Rattle.std.proofs.Common.{◌≡◌, refl, sym, ap, ◌∙◌, ℕ, zero, suc, ◌+◌, inl, inr, Bool, true, false, cond, List, [], ◌∷◌, map, ℤ, pos, ◌+ℤ◌, Option, Some, None, arith, subst}
 use Rattle.std.specs.Prelude.{is_some, slice_get}
 use Rattle.std.specs.Ordering.{int_cmp, eq_by_cmp}
 use Rattle.std.specs.Cmp.{int_cmp_total}
@@ -16,14 +16,15 @@ use Rattle.cyp_heap.specs.declared.chunk.CellAt.{CellAt}
 use Rattle.cyp_heap.specs.declared.chunk.Chunk.{Chunk}
 use Rattle.cyp_heap.specs.declared.chunk.Chunk.TheVariants.{Block, Cell, Inst}
 use Rattle.cyp_kernel.proofs.Allowed.{taken_some}
-use Rattle.cyp_kernel.proofs.HeapParts.{get_single, map_union_sym, take_out}
+use Rattle.cyp_kernel.proofs.ChunkOrder.{place_out}
+use Rattle.cyp_kernel.proofs.HeapParts.{get_single, map_union_sym, union_with_none}
+use Rattle.cyp_kernel.proofs.Offsets.{plus-zero}
 use Rattle.cyp_machine.proofs.CellUnions.{all_in_union}
 use Rattle.cyp_machine.proofs.Options.{some_there}
 use Rattle.cyp_machine.specs.Steps.{addresses, has_all, remove_all}
 use Rattle.cyp_step.specs.FlatRules.{block_cells, cells_from, first_place, is_written_at, without_cells}
 use Rattle.cyp_term.proofs.Equality.{Decides-term_eq}
 use Rattle.cyp_term.specs.Meaning.{Assignment, base_value, value}
-use Rattle.cyp_term.specs.Terms.{plus, term_eq}
 use Rattle.cyp_term.specs.declared.term.Term.{Term}
 
 -- ---- maps
@@ -46,14 +47,6 @@ module _ {A : Type 0} where
   abbrev no_entries : FinMap int_cmp A
   no_entries = empty
 
-  module _ (all b : FinMap int_cmp A) where
-    same_entries : ((q : ℤ) → get all q ≡ get b q) → all ≡ b
-    same_entries h = same_map int_cmp_total int_cmp-IsAntisymmetric all b h
-
-    -- beside nothing
-    pub union_with_none : IsDisjointUnion all no_entries b → all ≡ b
-    union_with_none u = same_entries (λ q. elim (u q) [ inl p ↦ p.1 | inr p ↦ p.1 ∙ get-empty int_cmp q ∙ sym p.0 ])
-
   module _ (all b : FinMap int_cmp A) (z : ℤ) (v : A) (u : IsDisjointUnion all (insert no_entries z v) b) where
     removed_here : (q : ℤ) → eq_by_cmp int_cmp q z ≡ true → get (remove all z) q ≡ get b q
     removed_here q e =
@@ -74,7 +67,7 @@ module _ {A : Type 0} where
 
     -- without a single entry the rest is left
     pub remove_single : remove all z ≡ b
-    remove_single = same_entries (remove all z) b (λ q. removed_by q (eq_by_cmp int_cmp q z) refl)
+    remove_single = same_map int_cmp_total int_cmp-IsAntisymmetric (remove all z) b (λ q. removed_by q (eq_by_cmp int_cmp q z) refl)
 
 remove_all-remove : (m : FinMap int_cmp ℤ) (z : ℤ) (zs : List ℤ) → remove (remove_all m zs) z ≡ remove_all (remove m z) zs
 remove_all-remove m z [] = refl
@@ -138,21 +131,21 @@ module _ (inst : Instances) (s : Assignment) where
       → ChunksHold inst s cs h ns → CardsAre s cs ns → CellsOut (t ∷ ts) ds h
   one_out t ts cs ds h ns j e more k l =
       let c = found_cell t cs j e in
-      let out = take_out inst s cs j (Cell c.0) h ns c.1 k l in
+      let out = place_out inst s cs j (Cell c.0) h c.1 (ns, k, l) in
       let z : ℤ = value s c.0.at in
       let zs : List ℤ = map (value s) ts in
-      let rest = more out.1 out.2 out.5 out.6 in
-      let single : IsDisjointUnion h.cells (insert empty z (value s c.0.content)) out.1.cells = subst (λ (m : FinMap int_cmp ℤ). IsDisjointUnion h.cells m out.1.cells) out.4.1 out.3.0 in
+      let rest = more out.rest out.others.0 out.others.1 out.others.2 in
+      let single : IsDisjointUnion h.cells (insert empty z (value s c.0.content)) out.rest.cells = subst (λ (m : FinMap int_cmp ℤ). IsDisjointUnion h.cells m out.rest.cells) out.one.1 out.union.0 in
       let here : is_some (get h.cells z) ≡ true =
-      let one = some_there (get out.0.cells z) (value s c.0.content) (ap (λ (m : FinMap int_cmp ℤ). get m z) out.4.1 ∙ get_single z (value s c.0.content)) in
-      ap is_some (union_left h.cells out.0.cells out.1.cells out.3.0 z one).1 ∙ one in
-      let cells : remove_all out.1.cells zs ≡ remove (remove_all h.cells zs) z =
-      sym (remove_all-remove h.cells z zs ∙ ap (λ (m : FinMap int_cmp ℤ). remove_all m zs) (remove_single h.cells out.1.cells z (value s c.0.content) single)) in
-      let no_block : IsDisjointUnion h.blocks empty out.1.blocks = subst (λ (m : FinMap int_cmp ℕ). IsDisjointUnion h.blocks m out.1.blocks) out.4.2 out.3.1 in
-      let blocks : out.1.blocks ≡ h.blocks = sym (union_with_none h.blocks out.1.blocks no_block) in
+      let one = some_there (get out.part.cells z) (value s c.0.content) (ap (λ (m : FinMap int_cmp ℤ). get m z) out.one.1 ∙ get_single z (value s c.0.content)) in
+      ap is_some (union_left h.cells out.part.cells out.rest.cells out.union.0 z one).1 ∙ one in
+      let cells : remove_all out.rest.cells zs ≡ remove (remove_all h.cells zs) z =
+      sym (remove_all-remove h.cells z zs ∙ ap (λ (m : FinMap int_cmp ℤ). remove_all m zs) (remove_single h.cells out.rest.cells z (value s c.0.content) single)) in
+      let no_block : IsDisjointUnion h.blocks empty out.rest.blocks = subst (λ (m : FinMap int_cmp ℕ). IsDisjointUnion h.blocks m out.rest.blocks) out.one.2 out.union.1 in
+      let blocks : out.rest.blocks ≡ h.blocks = sym (union_with_none h.blocks out.rest.blocks no_block) in
       let same : value s t ≡ z = ap (value s) c.2 in
       let all : has_all h.cells (z ∷ zs) ≡ true =
-      and_from (is_some (get h.cells z)) (has_all h.cells zs) here (all_in_union h.cells out.1.cells out.0.cells (map_union_sym h.cells out.0.cells out.1.cells out.3.0) zs rest.there) in
+      and_from (is_some (get h.cells z)) (has_all h.cells zs) here (all_in_union h.cells out.rest.cells out.part.cells (map_union_sym h.cells out.part.cells out.rest.cells out.union.0) zs rest.there) in
       record {
         there = subst (λ (y : ℤ). has_all h.cells (y ∷ zs) ≡ true) (sym same) all;
         heights = rest.heights;
@@ -178,9 +171,6 @@ next_address v j = omega (arith, ints)
 address_at : (b o : ℤ) (j : ℕ) → b +ℤ (o +ℤ pos j) ≡ (b +ℤ o) +ℤ pos j
 address_at b o j = omega (arith, ints)
 
-no_offset : (v : ℤ) → v +ℤ pos 0 ≡ v
-no_offset v = omega (arith, ints)
-
 addresses_from : (s : Assignment) (t : Term) (j n : ℕ) → map (value s) (cells_from t j n) ≡ addresses (value s t +ℤ pos j) n
 addresses_from s t j zero = refl
 addresses_from s t j (suc n) =
@@ -188,4 +178,4 @@ addresses_from s t j (suc n) =
     ∙ ap (λ (z : ℤ). (value s t +ℤ pos j) ∷ addresses z n) (sym (next_address (value s t) j))
 
 pub addresses_of : (s : Assignment) (t : Term) (n : ℕ) → map (value s) (block_cells t n) ≡ addresses (value s t) n
-addresses_of s t n = addresses_from s t 0 n ∙ ap (λ (z : ℤ). addresses z n) (no_offset (value s t))
+addresses_of s t n = addresses_from s t 0 n ∙ ap (λ (z : ℤ). addresses z n) (plus-zero (value s t))

@@ -1,7 +1,6 @@
 -- The values of a body's variables: those of program expressions, and after a new variable is bound.
-use Rattle.std.proofs.Common.{◌≡◌, refl, sym, ap, ◌∙◌, ℕ, ◌<◌, ◌==◌, ⊎_elim, inl, inr, Bool, true, false, cond, List, [], ◌∷◌, ◌++◌, map, ℤ, ◌+ℤ◌, Option, Some, None, arith, subst}
-use Rattle.std.specs.List.{list_any}
-use Rattle.std.proofs.lemmas.Bool.{cases_Bool, both_ways, cond-true, eq-eqb, false_from_ne_true, false≢true, ne_eqb, or_cases, or_parts}
+use Rattle.std.proofs.Common.{◌≡◌, refl, sym, ap, ◌∙◌, ℕ, ◌<◌, ◌==◌, inl, inr, Bool, true, false, cond, List, [], ◌∷◌, ◌++◌, map, ℤ, ◌+ℤ◌, Option, Some, None, arith, subst}
+use Rattle.std.proofs.lemmas.Bool.{both_ways, cond-true, eq-eqb, false_from_ne_true, false≢true, ne_eqb, or_cases, or_parts}
 use Rattle.std.proofs.lemmas.List.Folds.{list_any-append}
 use Rattle.cyp_heap.specs.declared.goal.Goal.{Goal}
 use Rattle.cyp_kernel.specs.Meets.{AreNamed, IsNaming}

@@ -1,5 +1,5 @@
 -- An assignment with other values of new integer variables.
-use Rattle.std.proofs.Common.{◌≡◌, refl, sym, ap, ◌∙◌, ℕ, suc, ◌<◌, ◌≤◌, Bool, false, true, cond, List, [], ◌∷◌, ℤ, arith, subst}
+use Rattle.std.proofs.Common.{◌≡◌, refl, sym, ap, ◌∙◌, ℕ, suc, ◌<◌, ◌≤◌, Bool, false, cond, List, [], ◌∷◌, ℤ, arith, subst}
 use Rattle.std.proofs.lemmas.Bool.{cond-true, false_from_ne_true}
 use Rattle.cyp_goal.proofs.EachVar.{Each, EachPart, each_part}
 use Rattle.cyp_heap.specs.declared.goal.Node.{Node}

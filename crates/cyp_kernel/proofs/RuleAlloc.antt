@@ -1,8 +1,6 @@
 -- Alloc is sound: the new block is beside the heap, and the new variables are its base and its contents.
-use Rattle.std.proofs.Common.{◌≡◌, refl, sym, ap, ◌∙◌, ℕ, zero, suc, ◌≤◌, [], ◌∷◌, ◌++◌, List, None, Option, Some, true, map, length, ℤ, pos, ◌+ℤ◌, ◌<ℤ◌, arith, subst}
-use Rattle.std.proofs.lemmas.Int.{ints}
-use Rattle.std.specs.FinMap.{FinMap, empty, get, insert}
-use Rattle.std.specs.Ordering.{int_cmp}
+use Rattle.std.proofs.Common.{◌≡◌, refl, sym, ap, ◌∙◌, ℕ, zero, suc, ◌≤◌, [], ◌∷◌, ◌++◌, List, Option, Some, map, length, ℤ, pos, ◌<ℤ◌, subst}
+use Rattle.std.specs.FinMap.{empty, insert}
 use Rattle.std.proofs.lemmas.Option.{same_Some}
 use Rattle.cyp_goal.proofs.EachVar.{EachPart}
 use Rattle.cyp_heap.proofs.Unions.{empty_beside, one_beside}
@@ -21,9 +19,9 @@ use Rattle.cyp_kernel.proofs.ChunkOrder.{AllHold, put_all_holds, put_holds}
 use Rattle.cyp_kernel.proofs.ForgetVars.{among_from_in, met_by_others}
 use Rattle.cyp_kernel.proofs.GoalFacts.{true_join, true_left}
 use Rattle.cyp_kernel.proofs.HeapAdded.{cells_at, new_cells_hold}
-use Rattle.cyp_kernel.proofs.HeapParts.{map_union_sym, union_sym}
 use Rattle.cyp_kernel.proofs.NamedValues.{named_with_new}
-use Rattle.cyp_kernel.proofs.NewNumber.{NumbersAre, new_out, numbers_are, old_parts, put_kept, put_new, put_numbers}
+use Rattle.cyp_kernel.proofs.NewNumber.{new_out, numbers_are, old_parts, put_kept, put_new, put_numbers}
+use Rattle.cyp_kernel.proofs.Offsets.{plus-zero}
 use Rattle.cyp_kernel.proofs.SteadyParts.{sorted_goal}
 use Rattle.cyp_kernel.specs.Meets.{BodyMeets, IsNaming, AreNamed, MeetsSoFar, body_state}
 use Rattle.cyp_kernel.specs.Naming.{Names}
@@ -42,10 +40,8 @@ use Rattle.cyp_step.specs.FlatRules.{new_cells, raw_alloc}
 use Rattle.cyp_step.specs.declared.rule.Rule.TheVariants.{ByAlloc}
 use Rattle.cyp_term.specs.Meaning.{Assignment, value}
 use Rattle.cyp_term.specs.Terms.{plus, var_term}
-use Rattle.cyp_term.specs.declared.lit.Lit.{Lit}
 use Rattle.cyp_term.specs.declared.lit.Lit.TheVariants.{Eq}
 use Rattle.cyp_term.specs.declared.term.Sort.TheVariants.{Int}
-use Rattle.cyp_term.specs.declared.term.Term.{Term}
 use Rattle.cyp_term.specs.declared.term.Var.{Var}
 use Rattle.cyp_unify.specs.Frames.{focus}
 
@@ -69,9 +65,6 @@ alloc_parts n o ms is = cc
 abbrev taken : Store → ℤ → ℕ → List ℤ → Store
 taken h a size zs = record { cells = insert_all h.cells a zs; blocks = insert h.blocks a size }
 
-plus_zero : (z : ℤ) → z +ℤ pos 0 ≡ z
-plus_zero z = omega (arith, ints)
-
 -- the block and the cells are put among the chunks
 module _ (n : Node) (steady : IsSteady n) (s : Assignment) (h : Store) (ns : List ℕ) (pre : SideHolds n.preds s n.goal.pure_pre n.goal.pre.chunks h ns) (a : ℤ) (zs : List ℤ) (free : IsFree h a (length zs)) where
   abbrev inst : Instances
@@ -82,7 +75,7 @@ module _ (n : Node) (steady : IsSteady n) (s : Assignment) (h : Store) (ns : Lis
   taken_values = put_numbers s (new_int n).number (a ∷ zs)
 
   base_value_is : value taken_values (var_term (new_int n)) ≡ a
-  base_value_is = plus_zero (taken_values.number (new_int n)) ∙ (numbers_are s (new_int n).number (a ∷ zs)).0
+  base_value_is = plus-zero (taken_values.number (new_int n)) ∙ (numbers_are s (new_int n).number (a ∷ zs)).0
 
   kept_side : SideHolds n.preds taken_values n.goal.pure_pre (pre_of n) h ns
   kept_side =
@@ -146,7 +139,7 @@ by_alloc ps n ms bs names procs next k steady formed naming is callees all s h n
   where
     go : (size' size : ℕ) → size' ≡ size
         → ((a : ℤ) (zs : List ℤ) → length zs ≡ size → IsFree h a size
-            → (j : ℕ) (u : State) → j ≤ k → Run ps j (body_state (taken h a size zs) ((next, a) ∷ vs) (first_body bs)) u → MeetsSoFar n.preds n.goal s u)
+        → (j : ℕ) (u : State) → j ≤ k → Run ps j (body_state (taken h a size zs) ((next, a) ∷ vs) (first_body bs)) u → MeetsSoFar n.preds n.goal s u)
         → (m : ℕ) (t : State) → m ≤ k → Run ps m (body_state h vs (Then (Taking next size') (first_body bs))) t → MeetsSoFar n.preds n.goal s t
     go size' size e after zero t le r = begun_run n.preds n.goal s h vs (Taking next size') (first_body bs) t refl r
     go size' size e after (suc j) t le r =

@@ -1,12 +1,11 @@
 -- Close is sound: where the clause's unfolding is left, the focus is left.
-use Rattle.std.proofs.Common.{◌≡◌, refl, sym, ap, ◌∙◌, ℕ, zero, suc, ◌<◌, ◌≤◌, ◌-◌, inl, inr, Bool, true, false, List, [], ◌∷◌, ◌++◌, map, Option, Some, None, arith, subst}
-use Rattle.std.specs.Prelude.{is_none, slice_get, nat_lt, option_map}
+use Rattle.std.proofs.Common.{◌≡◌, refl, sym, ◌∙◌, ℕ, zero, suc, ◌<◌, ◌≤◌, ◌-◌, inl, inr, Bool, true, false, List, [], ◌∷◌, ◌++◌, map, Option, Some, arith, subst}
+use Rattle.std.specs.Prelude.{slice_get}
 use Rattle.std.specs.List.{list_all}
-use Rattle.std.proofs.lemmas.Bool.{false_from_ne_true, false≢true, or_from}
-use Rattle.std.proofs.lemmas.Option.{none-some, same_Some}
+use Rattle.std.proofs.lemmas.Bool.{false_from_ne_true, or_from}
 use Rattle.std.proofs.lemmas.List.Folds.{list_any-append}
 use Rattle.cyp_goal.proofs.EachVar.{Each, EachPart}
-use Rattle.cyp_heap.specs.Assertions.{CardIs, SideHolds}
+use Rattle.cyp_heap.specs.Assertions.{SideHolds}
 use Rattle.cyp_heap.specs.Chunks.{chunks_vars, put_all, without}
 use Rattle.cyp_heap.specs.Instances.{ChunksHold, InstanceHolds, Instances, arg_value, height_above}
 use Rattle.cyp_heap.specs.Stores.{Store}
@@ -16,18 +15,16 @@ use Rattle.cyp_heap.specs.declared.chunk.InstOf.{InstOf}
 use Rattle.cyp_heap.specs.declared.goal.Goal.{Goal}
 use Rattle.cyp_heap.specs.declared.goal.Node.{Node}
 use Rattle.cyp_heap.specs.declared.pred.Preds.{Preds}
-use Rattle.cyp_kernel.proofs.AgreeVars.{AgreeAt, chunk_sorted, lit_sorted, side_by_vars}
+use Rattle.cyp_kernel.proofs.AgreeVars.{chunk_sorted, lit_sorted, side_by_vars}
 use Rattle.cyp_kernel.proofs.Allowed.{mapped_some, where_true_parts}
 use Rattle.cyp_kernel.proofs.BodyRuns.{one_premise, same_post}
 use Rattle.cyp_kernel.proofs.ChunkOrder.{AllHold, first_holds, put_all_out}
 use Rattle.cyp_kernel.proofs.Folded.{clause_of_entry, folds}
 use Rattle.cyp_kernel.proofs.ForgetVars.{agree_sym, agree_trans, among_from_in, mixed, mixed_at, mixed_out}
-use Rattle.cyp_kernel.proofs.FramePairs.{InstFits}
 use Rattle.cyp_kernel.proofs.GoalFacts.{true_left, true_right}
-use Rattle.cyp_kernel.proofs.HeapParts.{union_sym}
 use Rattle.cyp_kernel.proofs.NewNumber.{old_parts}
 use Rattle.cyp_kernel.proofs.OldVars.{IsOld, next_at}
-use Rattle.cyp_kernel.proofs.RuleFrame.{head_out}
+use Rattle.cyp_kernel.proofs.RuleFrame.{head_out, no_card}
 use Rattle.cyp_kernel.proofs.SteadyParts.{post_chunk_fits, sorted_goal}
 use Rattle.cyp_kernel.specs.Correct.{AgreeBeside, AgreeBy, MeetsPost}
 use Rattle.cyp_kernel.specs.RuleLaws.{AllMeet, RuleLaw}
@@ -77,9 +74,12 @@ fewer_exist : (preds : Preds) (g : Goal) (s t : Assignment) (own : List Var) (h 
     → Each (λ v. var_in v own ≡ false) (lits_vars g.pure_post) → Each (λ v. var_in v own ≡ false) (chunks_vars g.post.chunks)
     → AgreeBeside (g.exist ++ own) s t → SideHolds preds t g.pure_post g.post.chunks h ns → MeetsPost preds g s h
 fewer_exist preds g s t own h ns lits chunks a b beside k =
-    let u : Assignment = mixed g.exist s t in
-    (u, ns, (λ v out. mixed_out g.exist s t v.sort v out),
-    side_by_vars t u preds g.pure_post g.post.chunks h ns lits chunks (λ v m. kept v (var_in v g.exist) refl (a v m)) (λ v m. kept v (var_in v g.exist) refl (b v m)) k)
+    let u : Assignment = mixed g.exist s t in (
+      u,
+      ns,
+      (λ v out. mixed_out g.exist s t v.sort v out),
+      side_by_vars t u preds g.pure_post g.post.chunks h ns lits chunks (λ v m. kept v (var_in v g.exist) refl (a v m)) (λ v m. kept v (var_in v g.exist) refl (b v m)) k,
+    )
   where
     kept : (v : Var) (o : Bool) → var_in v g.exist ≡ o → var_in v own ≡ false → AgreeBy v.sort t (mixed g.exist s t) v
     kept v true e new = mixed_at g.exist s t v (among_from_in v g.exist e)
@@ -110,10 +110,6 @@ own_apart n u v h =
     list_any-append (var_eq v) (new_ints next.ints (u.next.ints - next.ints)) (new_sets next.sets (u.next.sets - next.sets))
     ∙ or_from (var_in v (new_ints next.ints (u.next.ints - next.ints))) (var_in v (new_sets next.sets (u.next.sets - next.sets)))
     (not_numbered next Int v h (u.next.ints - next.ints)) (not_numbered next Set v h (u.next.sets - next.sets))
-
-no_card : (t : Assignment) (c : Option Var) (m : ℕ) → is_none c ≡ true → CardIs t c m
-no_card t None m e = tt
-no_card t (Some v) m e = absurd (false≢true e)
 
 pub by_close : (k : ℕ) → RuleLaw (ByClose k)
 by_close k' ps n ms bs names procs next k steady formed naming is callees all s h ns vs pre named m t le r =

@@ -1,5 +1,5 @@
 -- Emp is sound: the heap is empty on both sides, and the pure postcondition follows from the facts.
-use Rattle.std.proofs.Common.{◌≡◌, sym, ◌&&◌, ◌==◌, ℕ, [], List, None, Some, length, subst}
+use Rattle.std.proofs.Common.{◌≡◌, sym, ◌&&◌, ◌==◌, [], List, Some, length, subst}
 use Rattle.std.proofs.lemmas.Bool.{and_parts}
 use Rattle.cyp_heap.specs.Assertions.{CardsAre}
 use Rattle.cyp_heap.specs.Instances.{ChunksHold, InstanceHolds}

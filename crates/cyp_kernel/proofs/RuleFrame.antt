@@ -1,26 +1,27 @@
 -- Frame is sound: the premise's body runs beside the chunk, which is the focus at the end.
-use Rattle.std.proofs.Common.{◌≡◌, refl, sym, ap, ◌∙◌, ℕ, ◌≤◌, [], ◌∷◌, ◌++◌, List, None, Option, Some, true, append-nil, subst}
+use Rattle.std.proofs.Common.{◌≡◌, refl, sym, ap, ◌∙◌, ℕ, ◌≤◌, [], ◌∷◌, ◌++◌, List, None, Option, Some, true, subst}
 use Rattle.std.specs.Prelude.{is_none, slice_get}
-use Rattle.std.proofs.lemmas.Bool.{and_from}
+use Rattle.std.proofs.lemmas.Bool.{false≢true}
 use Rattle.std.proofs.lemmas.Option.{none-some, same_Some}
 use Rattle.cyp_goal.proofs.EachVar.{Each}
 use Rattle.cyp_goal.proofs.LinksFit.{FitsPost, FitsPre}
-use Rattle.cyp_heap.proofs.Agreement.{chunks_agree}
 use Rattle.cyp_heap.proofs.Listings.{by_values}
 use Rattle.cyp_heap.proofs.SameChunks.{SameChunk}
-use Rattle.cyp_heap.specs.Assertions.{CardsAre, SideHolds}
+use Rattle.cyp_heap.specs.Assertions.{CardIs, CardsAre, SideHolds}
 use Rattle.cyp_heap.specs.Chunks.{chunk_vars, without}
 use Rattle.cyp_heap.specs.Instances.{ChunksHold, InstanceHolds, Instances}
+use Rattle.cyp_heap.specs.Stores.{Store}
 use Rattle.cyp_heap.specs.declared.chunk.Chunk.{Chunk}
 use Rattle.cyp_heap.specs.declared.chunk.Chunk.TheVariants.{Block, Cell, Inst}
 use Rattle.cyp_heap.specs.declared.goal.Node.{Node}
 use Rattle.cyp_heap.specs.declared.pred.Preds.{Preds}
-use Rattle.cyp_kernel.proofs.AgreeVars.{AgreeAt, chunk_sorted, chunks_alike}
+use Rattle.cyp_kernel.proofs.AgreeVars.{AgreeAt, same_by_vars}
 use Rattle.cyp_kernel.proofs.Allowed.{taken_some, taken_true}
 use Rattle.cyp_kernel.proofs.BodyRuns.{one_premise}
+use Rattle.cyp_kernel.proofs.ChunkOrder.{OneAt, first_holds, place_out}
 use Rattle.cyp_kernel.proofs.FramePairs.{InstFits, frame_same, pair_of_focus}
 use Rattle.cyp_kernel.proofs.GoalFacts.{true_join, true_left, true_right}
-use Rattle.cyp_kernel.proofs.HeapParts.{HasNoCard, OneHolds, one_same, put_first, take_out, union_sym}
+use Rattle.cyp_kernel.proofs.HeapParts.{OneHolds, one_same, union_sym}
 use Rattle.cyp_kernel.proofs.SteadyParts.{chunk_sorted_at, chunk_vars_among, post_chunk_fits, pre_apart, pre_chunk_fits, sorted_goal}
 use Rattle.cyp_kernel.specs.Meets.{MeetsSoFar, body_state}
 use Rattle.cyp_kernel.specs.RuleLaws.{AllMeet, RuleLaw}
@@ -31,7 +32,6 @@ use Rattle.cyp_machine.specs.States.{State, frames_ended, has_ended}
 use Rattle.cyp_step.specs.Changes.{add_post, add_pre, post_of, pre_of}
 use Rattle.cyp_step.specs.FlatRules.{pair_at}
 use Rattle.cyp_step.specs.declared.rule.Rule.TheVariants.{ByFrame}
-use Rattle.cyp_term.proofs.Lists.{Among}
 use Rattle.cyp_term.specs.Meaning.{AllTrue, Assignment}
 use Rattle.cyp_term.specs.declared.lit.Lit.{Lit}
 use Rattle.cyp_term.specs.declared.term.Var.{Var}
@@ -52,18 +52,20 @@ post_fits preds (Inst i) h = h.0
 post_fits preds (Block b) h = tt
 post_fits preds (Cell c) h = tt
 
-no_card : (preds : Preds) (inst : Instances) (c : Chunk) → FitsPost preds c → HasNoCard inst c
-no_card preds inst (Inst i) h = h.1
-no_card preds inst (Block b) h = tt
-no_card preds inst (Cell c) h = tt
+-- a chunk's heap without its cardinality, and with the cardinality that it doesn't have
+bare : (inst : Instances) (s : Assignment) (c : Chunk) (a : Store) → OneAt inst s c a → OneHolds inst s c a
+bare inst s (Inst i) a o = (o.0, o.1)
+bare inst s (Block b) a o = o
+bare inst s (Cell c) a o = o
 
--- a chunk means the same where the assignments agree at its variables
-same_by_vars : (s u : Assignment) (c : Chunk) → chunk_sorted c ≡ true → Each (AgreeAt s u) (chunk_vars c) → SameChunk s u c c
-same_by_vars s u c f e =
-    let a = chunks_alike s u (c ∷ []) (and_from (chunk_sorted c) true f refl) (λ v k. e v (in_one v k)) in (chunks_agree s u (c ∷ []) a.terms a.sets).0
-  where
-    in_one : (v : Var) → Among v (chunk_vars c ++ []) → Among v (chunk_vars c)
-    in_one v k = subst (Among v) (append-nil (chunk_vars c)) k
+pub no_card : (t : Assignment) (c : Option Var) (m : ℕ) → is_none c ≡ true → CardIs t c m
+no_card t None m e = tt
+no_card t (Some v) m e = absurd (false≢true e)
+
+uncarded : (preds : Preds) (inst : Instances) (s : Assignment) (c : Chunk) (a : Store) → FitsPost preds c → OneHolds inst s c a → OneAt inst s c a
+uncarded preds inst s (Inst i) a h o = (o.0, o.1, no_card s i.card o.0 h.1)
+uncarded preds inst s (Block b) a h o = o
+uncarded preds inst s (Cell c) a h o = o
 
 frames_same : (x y : State) → y.frames ≡ x.frames → has_ended y ≡ true → has_ended x ≡ true
 frames_same x y e h = ap frames_ended (sym e) ∙ h
@@ -82,14 +84,14 @@ by_frame i ps n ms bs names procs next k steady formed naming is callees all s h
     let sorted = sorted_goal n steady in
     let premise = one_premise ps names k (framed_node n i p) bs (subst (λ (xs : List Node). AllMeet ps names k xs bs) (sym (same_Some _ ms b.1)) all) in
     let inst : Instances = InstanceHolds n.preds in
-    let out = take_out inst s (pre_of n) i c h ns w.3 pre.1 pre.2 in
-    let small : State = body_state out.1 vs (first_body bs) in
+    let out = place_out inst s (pre_of n) i c h w.3 (ns, pre.1, pre.2) in
+    let small : State = body_state out.rest vs (first_body bs) in
     let large : State = body_state h vs (first_body bs) in
-    let start : SideHolds n.preds s (n.goal.pure_pre ++ []) (without (pre_of n) i) out.1 out.2 = (true_join s n.goal.pure_pre [] pre.0 tt, out.5, out.6) in
-    let goes : (j : ℕ) (x : State) → j ≤ k → Run ps j small x → MeetsSoFar n.preds (framed_node n i p).goal s x = λ j x l y. premise s out.1 out.2 vs start named j x l y in
-    let framed = framing ps k out.0 large small (union_sym h out.0 out.1 out.3, refl) (λ j x l y. (goes j x l y).no_fault) in
+    let start : SideHolds n.preds s (n.goal.pure_pre ++ []) (without (pre_of n) i) out.rest out.others.0 = (true_join s n.goal.pure_pre [] pre.0 tt, out.others.1, out.others.2) in
+    let goes : (j : ℕ) (x : State) → j ≤ k → Run ps j small x → MeetsSoFar n.preds (framed_node n i p).goal s x = λ j x l y. premise s out.rest out.others.0 vs start named j x l y in
+    let framed = framing ps k out.part large small (union_sym h out.part out.rest out.union, refl) (λ j x l y. (goes j x l y).no_fault) in
     let d = framed.1 m t le r in
-    let last = last_beside ps out.0 m large small t d.0 d.2 in
+    let last = last_beside ps out.part m large small t d.0 d.2 in
     record {
       no_fault = framed.0 m t le r;
       meets_post = λ ended.
@@ -99,10 +101,10 @@ by_frame i ps n ms bs names procs next k steady formed naming is callees all s h
           let lits : AllTrue u (frame_lits f c) = subst (λ (ls : List Lit). AllTrue u ls) w.5 (true_right u n.goal.pure_post p.lits met.3.0) in
           let focus_fits = post_chunk_fits n steady 0 f w.2 in
           let same : SameChunk u u c f = frame_same n.preds u f c (post_fits n.preds f focus_fits) (pre_fits n.preds c (pre_chunk_fits n steady i c w.3)) w.4 lits in
-          let one : OneHolds inst u f out.0 =
-          one_same inst (by_values n.preds) u u c f out.0 same
-          (one_same inst (by_values n.preds) s u c c out.0 (same_by_vars s u c (chunk_sorted_at (pre_of n) i c w.3 sorted.pre) agree) out.4) in
-          let whole = put_first inst u f (without (post_of n) 0) t.store out.0 d.0.store met.1 (no_card n.preds inst f focus_fits) (union_sym t.store d.0.store out.0 last.0) one met.3.1 met.3.2 in
+          let one : OneHolds inst u f out.part =
+          one_same inst (by_values n.preds) u u c f out.part same
+          (one_same inst (by_values n.preds) s u c c out.part (same_by_vars s u c (chunk_sorted_at (pre_of n) i c w.3 sorted.pre) agree) (bare inst s c out.part out.one)) in
+          let whole = first_holds inst u f (without (post_of n) 0) t.store out.part d.0.store (union_sym t.store d.0.store out.part last.0) (uncarded n.preds inst u f out.part focus_fits one) (met.1, met.3.1, met.3.2) in
           let back : f ∷ without (post_of n) 0 ≡ post_of n = head_out (post_of n) f w.2 in (
             u,
             whole.0,

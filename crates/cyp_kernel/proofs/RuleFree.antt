@@ -16,9 +16,10 @@ use Rattle.cyp_heap.specs.declared.chunk.Chunk.TheVariants.{Block}
 use Rattle.cyp_heap.specs.declared.goal.Node.{Node}
 use Rattle.cyp_kernel.proofs.Allowed.{mapped_some, taken_true}
 use Rattle.cyp_kernel.proofs.BodyRuns.{begun_run, less_suc, no_fault_there, one_premise, same_post}
+use Rattle.cyp_kernel.proofs.ChunkOrder.{place_out}
 use Rattle.cyp_kernel.proofs.GoalFacts.{true_join}
-use Rattle.cyp_kernel.proofs.HeapParts.{get_single, take_out}
-use Rattle.cyp_kernel.proofs.HeapRemoved.{addresses_of, cells_out, remove_single, union_with_none}
+use Rattle.cyp_kernel.proofs.HeapParts.{get_single, union_with_none}
+use Rattle.cyp_kernel.proofs.HeapRemoved.{addresses_of, cells_out, remove_single}
 use Rattle.cyp_kernel.proofs.NamedValues.{expr_is}
 use Rattle.cyp_kernel.specs.Meets.{MeetsSoFar, body_state}
 use Rattle.cyp_kernel.specs.Naming.{expr_of}
@@ -69,15 +70,15 @@ by_free i ps n ms bs names procs next k steady formed naming is callees all s h 
     let z : ℤ = value s b.at in
     let at : expr_value vs (expr_of names (pre_cell_at n i)) ≡ z =
     ap (λ (o : Option Chunk). expr_value vs (expr_of names (chunk_address o))) w.block_is ∙ expr_is names vs s n.goal b.at named w.address in
-    let out = take_out inst s (pre_of n) i (Block b) h ns w.block_is pre.1 pre.2 in
-    let rest : Store = out.1 in
-    let cells = cells_out inst s (block_cells b.at b.size) (without (pre_of n) i) w.left rest out.2 w.cells out.5 out.6 in
-    let single : IsDisjointUnion h.blocks (insert empty z b.size) rest.blocks = subst (λ (m : FinMap int_cmp ℕ). IsDisjointUnion h.blocks m rest.blocks) out.4.2 out.3.1 in
-    let no_cell : IsDisjointUnion h.cells empty rest.cells = subst (λ (m : FinMap int_cmp ℤ). IsDisjointUnion h.cells m rest.cells) out.4.1 out.3.0 in
+    let out = place_out inst s (pre_of n) i (Block b) h w.block_is (ns, pre.1, pre.2) in
+    let rest : Store = out.rest in
+    let cells = cells_out inst s (block_cells b.at b.size) (without (pre_of n) i) w.left rest out.others.0 w.cells out.others.1 out.others.2 in
+    let single : IsDisjointUnion h.blocks (insert empty z b.size) rest.blocks = subst (λ (m : FinMap int_cmp ℕ). IsDisjointUnion h.blocks m rest.blocks) out.one.2 out.union.1 in
+    let no_cell : IsDisjointUnion h.cells empty rest.cells = subst (λ (m : FinMap int_cmp ℤ). IsDisjointUnion h.cells m rest.cells) out.one.1 out.union.0 in
     let same_cells : h.cells ≡ rest.cells = union_with_none h.cells rest.cells no_cell in
     let there : get h.blocks z ≡ Some b.size =
-    let one : get out.0.blocks z ≡ Some b.size = ap (λ (m : FinMap int_cmp ℕ). get m z) out.4.2 ∙ get_single z b.size in
-    (union_left h.blocks out.0.blocks rest.blocks out.3.1 z (some_there (get out.0.blocks z) b.size one)).1 ∙ one in
+    let one : get out.part.blocks z ≡ Some b.size = ap (λ (m : FinMap int_cmp ℕ). get m z) out.one.2 ∙ get_single z b.size in
+    (union_left h.blocks out.part.blocks rest.blocks out.union.1 z (some_there (get out.part.blocks z) b.size one)).1 ∙ one in
     let addresses_are : map (value s) (block_cells b.at b.size) ≡ addresses z b.size = addresses_of s b.at b.size in
     let addresses_back = sym addresses_are in
     let cells_back = sym same_cells in

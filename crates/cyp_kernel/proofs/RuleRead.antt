@@ -1,9 +1,8 @@
 -- Read is sound: the cell is there, and the new variable has the value of its content.
-use Rattle.std.proofs.Common.{◌≡◌, refl, sym, ap, ◌∙◌, ℕ, zero, suc, ◌≤◌, [], ◌∷◌, ◌++◌, List, None, Option, Some, true, ℤ, pos, ◌+ℤ◌, arith, subst}
+use Rattle.std.proofs.Common.{◌≡◌, refl, sym, ap, ◌∙◌, ℕ, zero, suc, ◌≤◌, [], ◌∷◌, ◌++◌, List, Option, Some, true, ℤ, subst}
 use Rattle.std.specs.FinMap.{get}
 use Rattle.std.specs.Prelude.{is_some, slice_get, slice_set}
 use Rattle.std.proofs.lemmas.Bool.{and_parts}
-use Rattle.std.proofs.lemmas.Int.{ints}
 use Rattle.std.proofs.lemmas.Option.{same_Some}
 use Rattle.cyp_goal.proofs.EachVar.{EachPart}
 use Rattle.cyp_goal.specs.Raw.{term_fits}
@@ -21,6 +20,7 @@ use Rattle.cyp_kernel.proofs.GoalFacts.{true_join}
 use Rattle.cyp_kernel.proofs.HeapCells.{cards_set, cell_there, same_content}
 use Rattle.cyp_kernel.proofs.NamedValues.{expr_is, named_with_new}
 use Rattle.cyp_kernel.proofs.NewNumber.{new_out, old_parts, put_here, put_kept, put_new, put_number}
+use Rattle.cyp_kernel.proofs.Offsets.{plus-zero}
 use Rattle.cyp_kernel.proofs.SteadyParts.{chunk_sorted_at, chunk_vars_among, sorted_goal}
 use Rattle.cyp_kernel.specs.Meets.{MeetsSoFar, body_state}
 use Rattle.cyp_kernel.specs.Naming.{expr_of}
@@ -58,9 +58,6 @@ read_parts n i (Some (Cell c)) ms is =
     (c, refl, q.0, sym (same_Some _ ms a.1))
 read_parts n i o ms is = cc
 
-plus_zero : (z : ℤ) → z +ℤ pos 0 ≡ z
-plus_zero z = omega (arith, ints)
-
 pub by_read : (i : ℕ) → RuleLaw (ByRead i)
 by_read i ps n ms bs names procs next k steady formed naming is callees all s h ns vs pre named m t le r =
     let w = read_parts n i (slice_get (pre_of n) i) ms is in
@@ -79,7 +76,7 @@ by_read i ps n ms bs names procs next k steady formed naming is callees all s h 
     let same : value s c.content ≡ value u c.content =
     value_same s u c.content (and_parts (term_fits is_number_var c.at) (term_fits is_number_var c.content) (chunk_sorted_at (pre_of n) i (Cell c) w.1 sorted.pre)).1
     (λ v k. parts.pre v (chunk_vars_among (pre_of n) i (Cell c) w.1 v (Among-right v (term_vars c.at) (term_vars c.content) k))) in
-    let bare : value u (var_term y) ≡ z = plus_zero (u.number y) ∙ put_here s y z in
+    let bare : value u (var_term y) ≡ z = plus-zero (u.number y) ∙ put_here s y z in
     let after : SideHolds n.preds u (n.goal.pure_pre ++ Eq (var_term y) c.content ∷ []) (slice_set (pre_of n) i (Cell (record { at = c.at; content = var_term y }))) h ns = (
       true_join u n.goal.pure_pre (Eq (var_term y) c.content ∷ []) side.0 (bare ∙ same, tt),
       same_content inst u (pre_of n) i c (var_term y) h ns w.1 (sym same ∙ sym bare) side.1,

@@ -1,5 +1,5 @@
 -- Write is sound: the cell is there, and it gets the content that the focus has.
-use Rattle.std.proofs.Common.{◌≡◌, sym, ap, ◌∙◌, ℕ, zero, suc, ◌≤◌, [], ◌∷◌, ◌++◌, List, None, Option, Some, true, ℤ, subst}
+use Rattle.std.proofs.Common.{◌≡◌, sym, ap, ◌∙◌, ℕ, [], ◌∷◌, ◌++◌, List, Option, Some, true, subst}
 use Rattle.std.specs.FinMap.{get}
 use Rattle.std.specs.Prelude.{is_some, slice_get, slice_set}
 use Rattle.std.proofs.lemmas.Bool.{and_parts}
@@ -11,26 +11,20 @@ use Rattle.cyp_heap.specs.declared.chunk.Chunk.{Chunk}
 use Rattle.cyp_heap.specs.declared.chunk.Chunk.TheVariants.{Cell}
 use Rattle.cyp_heap.specs.declared.goal.Node.{Node}
 use Rattle.cyp_kernel.proofs.Allowed.{taken_false, taken_true}
-use Rattle.cyp_kernel.proofs.BodyRuns.{begun_run, less_suc, no_fault_there, one_premise, same_post}
+use Rattle.cyp_kernel.proofs.BodyRuns.{one_premise, same_post}
 use Rattle.cyp_kernel.proofs.GoalFacts.{true_join}
 use Rattle.cyp_kernel.proofs.HeapCells.{cards_set, cell_there, write_cell, written}
 use Rattle.cyp_kernel.proofs.NamedValues.{expr_is}
-use Rattle.cyp_kernel.specs.Meets.{MeetsSoFar, body_state}
+use Rattle.cyp_kernel.proofs.StoreRuns.{store_right}
 use Rattle.cyp_kernel.specs.Naming.{expr_of}
 use Rattle.cyp_kernel.specs.RuleLaws.{AllMeet, RuleLaw}
 use Rattle.cyp_kernel.specs.Statements.{chunk_address, chunk_content, first_body, focus_content, pre_cell_at}
-use Rattle.cyp_machine.specs.Runs.{Run}
-use Rattle.cyp_machine.specs.States.{State}
 use Rattle.cyp_machine.specs.Values.{expr_value}
-use Rattle.cyp_machine.specs.declared.cause.Cause.TheVariants.{WriteMissing}
-use Rattle.cyp_prog.specs.Programs.{Storing, Then}
-use Rattle.cyp_prog.specs.declared.stmt.Expr.{Expr}
 use Rattle.cyp_step.specs.Changes.{add_pre, pre_of}
 use Rattle.cyp_step.specs.FlatRules.{raw_write}
 use Rattle.cyp_step.specs.Shown.{is_program_expr}
 use Rattle.cyp_step.specs.declared.rule.Rule.TheVariants.{ByWrite}
 use Rattle.cyp_term.specs.Meaning.{value}
-use Rattle.cyp_term.specs.declared.term.Term.{Term}
 use Rattle.cyp_unify.specs.Frames.{focus}
 
 abbrev written_node : Node → ℕ → CellAt → CellAt → Node
@@ -66,23 +60,11 @@ by_write i ps n ms bs names procs next k steady formed naming is callees all s h
     ap (λ (o : Option Chunk). expr_value vs (expr_of names (chunk_address o))) w.cell_is ∙ expr_is names vs s n.goal w.cell.at named w.address in
     let content : expr_value vs (expr_of names (focus_content n)) ≡ value s w.focus.content =
     ap (λ (o : Option Chunk). expr_value vs (expr_of names (chunk_content o))) w.focus_is ∙ expr_is names vs s n.goal w.focus.content named w.content in
-    let there : is_some (get h.cells (expr_value vs (expr_of names (pre_cell_at n i)))) ≡ true =
-    ap (λ (z : ℤ). is_some (get h.cells z)) at ∙ ap is_some (cell_there inst s (pre_of n) i w.cell h ns w.cell_is pre.1) in
+    let there : is_some (get h.cells (value s w.cell.at)) ≡ true = ap is_some (cell_there inst s (pre_of n) i w.cell h ns w.cell_is pre.1) in
     let after : SideHolds n.preds s (n.goal.pure_pre ++ []) (slice_set (pre_of n) i (Cell (record { at = w.cell.at; content = w.focus.content }))) (written h (value s w.cell.at) (value s w.focus.content)) ns = (
       true_join s n.goal.pure_pre [] pre.0 tt,
       write_cell inst s (pre_of n) i w.cell w.focus.content h ns w.cell_is pre.1,
       cards_set inst s (pre_of n) i w.cell (record { at = w.cell.at; content = w.focus.content }) ns w.cell_is pre.2,
     ) in
-    go (expr_of names (pre_cell_at n i)) (expr_of names (focus_content n)) (value s w.cell.at) (value s w.focus.content) at content there
+    store_right ps n.preds n.goal s h vs k (expr_of names (pre_cell_at n i)) (expr_of names (focus_content n)) (value s w.cell.at) (value s w.focus.content) (first_body bs) at content there
     (λ j u l q. same_post n.preds node.goal n.goal s s u (λ p. p) (premise s (written h (value s w.cell.at) (value s w.focus.content)) ns vs after named j u l q)) m t le r
-  where
-    go : (x y : Expr) (at content : ℤ) → expr_value vs x ≡ at → expr_value vs y ≡ content → is_some (get h.cells (expr_value vs x)) ≡ true
-        → ((j : ℕ) (u : State) → j ≤ k → Run ps j (body_state (written h at content) vs (first_body bs)) u → MeetsSoFar n.preds n.goal s u)
-        → (m : ℕ) (t : State) → m ≤ k → Run ps m (body_state h vs (Then (Storing x y) (first_body bs))) t → MeetsSoFar n.preds n.goal s t
-    go x y at content p q there after zero t le r =
-        begun_run n.preds n.goal s h vs (Storing x y) (first_body bs) t (no_fault_there (is_some (get h.cells (expr_value vs x))) WriteMissing there) r
-    go x y at content p q there after (suc j) t le r =
-        after j t (less_suc j k le)
-        (subst (λ (z : ℤ). Run ps j (body_state (written h at z) vs (first_body bs)) t) q
-        (subst (λ (z : ℤ). Run ps j (body_state (written h z (expr_value vs y)) vs (first_body bs)) t) p
-        (subst (λ (u : State). Run ps j u t) r.1.1 r.2)))

@@ -1,7 +1,7 @@
 -- What is known of the parts of a steady node.
 use Rattle.std.proofs.Common.{◌≡◌, sym, inl, inr, [], ◌∷◌, List, ◌++◌, ◌&&◌, zero, suc, false, not, true, IfSome, Some, ℕ, subst, slice_get, Option}
 use Rattle.std.specs.List.{list_all}
-use Rattle.std.proofs.lemmas.Bool.{and_parts, false_from_ne_true, false≢true, not-true, both_ways}
+use Rattle.std.proofs.lemmas.Bool.{and_parts, false_from_ne_true, not-true, both_ways}
 use Rattle.std.proofs.lemmas.Option.{none-some, same_Some}
 use Rattle.cyp_goal.proofs.LinksFit.{FitsPost, FitsPre, sides_fit}
 use Rattle.cyp_goal.specs.Raw.{goal_fits, link_fits}

@@ -1,5 +1,5 @@
 -- The substitution of an unfolding gives the parameters the values of the arguments.
-use Rattle.std.proofs.Common.{◌≡◌, refl, ap, ◌∙◌, ℕ, suc, ◌<◌, Bool, true, false, cond, List, [], ◌∷◌, ◌++◌, map, Option, Some, arith}
+use Rattle.std.proofs.Common.{◌≡◌, refl, ap, ◌∙◌, ℕ, suc, ◌<◌, true, false, List, [], ◌∷◌, ◌++◌, map, Option, Some, arith}
 use Rattle.std.proofs.lemmas.Bool.{cond-false, cond-true, false_from_ne_true, false≢true}
 use Rattle.cyp_heap.specs.Formed.{sorts_fit}
 use Rattle.cyp_heap.specs.Instances.{ParamsAre, arg_value}

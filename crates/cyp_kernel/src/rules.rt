@@ -1,5 +1,5 @@
 ghost use Rattle.cyp_kernel.specs.RuleLaws.{RuleLaw};
-ghost use Rattle.cyp_step.specs.declared.rule.Rule.TheVariants.{ByAlloc, ByClose, ByEmp, ByFrame, ByFree, ByInconsistent, ByPick, ByRead, ByWrite};
+ghost use Rattle.cyp_step.specs.declared.rule.Rule.TheVariants.{ByAlloc, ByClose, ByEmp, ByFrame, ByFree, ByInconsistent, ByOpen, ByPick, ByRead, ByWrite};
 ghost use Rattle.cyp_term.specs.declared.term.Var.{Var};
 ghost use Rattle.std.specs.Prelude.{ℕ};
 
@@ -19,5 +19,6 @@ pub fn flat_rules_are_sound()
 /// Law: so it is for the rules that unfold an instance, over predicates of which no two guards can
 /// both hold.
 pub fn unfolding_rules_are_sound()
+    ensures open { (i : ℕ) → RuleLaw (ByOpen i) }
     ensures close { (k : ℕ) → RuleLaw (ByClose k) }
 {}
