@@ -11,6 +11,7 @@ use Rattle.cyp_kernel.specs.Correct.{MeetsPost}
 use Rattle.cyp_kernel.specs.Meets.{MeetsSoFar}
 use Rattle.cyp_machine.proofs.Calls.{call}
 use Rattle.cyp_machine.proofs.FramedRuns.{framing, last_beside}
+use Rattle.cyp_machine.specs.Allocations.{allocated}
 use Rattle.cyp_machine.specs.Framing.{RunsSafely}
 use Rattle.cyp_machine.specs.Parts.{IsInCall, IsPastCall, callee, frame, state}
 use Rattle.cyp_machine.specs.Runs.{Run}
@@ -45,22 +46,22 @@ module _ (ps : List Procedure) (p : ℕ) (preds : Preds) (inner : Goal) (u : Ass
       safe : (m : ℕ) → m < k → RunsSafely ps m small
       safe m l j t e r = (goes j t (below m j l e) r).no_fault
 
-      in_call : (m : ℕ) (t : State) → m < k → IsInCall ps m h (callee vs es q) (frame vs b ∷ []) t → MeetsSoFar preds outer s t
-      in_call m t l i =
+      in_call : (m c : ℕ) (t : State) → m < k → IsInCall ps m c h (callee vs es q) (frame vs b ∷ []) t → MeetsSoFar preds outer s t
+      in_call m c t l i =
           let framed = framing ps m extra large small (union, refl) (safe m l) in
-          record { no_fault = i.4 ∙ framed.0 m (state i.0 i.1) (itself m) i.3; meets_post = λ e. absurd (both_ways (has_ended t) i.5 e) }
+          record { no_fault = i.4 ∙ framed.0 m (state i.0 i.1) (itself m) i.3.0; meets_post = λ e. absurd (both_ways (has_ended t) i.5 e) }
         where
           itself : (m : ℕ) → m ≤ m
           itself m = omega arith
 
-      past_call : (m : ℕ) (t : State) → m < k → IsPastCall ps m h (callee vs es q) (frame vs b ∷ []) t → MeetsSoFar preds outer s t
-      past_call m t l i =
+      past_call : (m c : ℕ) (t : State) → m < k → IsPastCall ps m c h (callee vs es q) (frame vs b ∷ []) t → MeetsSoFar preds outer s t
+      past_call m c t l i =
           let framed = framing ps m extra large small (union, refl) (safe m l) in
-          let ended : State = state i.3 (frame i.4 End ∷ []) in
-          let d = framed.1 i.0 ended (first m i.0 i.1 i.2) i.5 in
+          let ended : State = state i.6 (frame i.7 End ∷ []) in
+          let d = framed.1 i.0 ended (first m i.0 i.1 i.2) i.8.0 in
           let last = last_beside ps extra i.0 large small ended d.0 d.2 in
           let over : has_ended d.0 ≡ true = ap frames_ended (sym last.1) in
-          after d.0.store i.3 ((goes i.0 d.0 (below m i.0 l (first m i.0 i.1 i.2)) d.1).meets_post over) last.0 i.1 t (second m i.0 i.1 i.2 l) i.6
+          after d.0.store i.6 ((goes i.0 d.0 (below m i.0 l (first m i.0 i.1 i.2)) d.1).meets_post over) last.0 i.1 t (second m i.0 i.1 i.2 l) i.9.0
         where
           first : (m j i : ℕ) → suc (j + i) ≡ m → j ≤ m
           first m j i e = omega arith
@@ -72,9 +73,9 @@ module _ (ps : List Procedure) (p : ℕ) (preds : Preds) (inner : Goal) (u : Ass
     call_right zero t l r = begun_run preds outer s h vs (Invoking p es) b t refl r
     call_right (suc m) t l r =
         let q : Procedure = r.1.0 in
-        elim (call ps m h vs p es b [] t q r.1.1 r) [
-          | inl i ↦ in_call q r.1.1 m t (less m l) i
-          | inr i ↦ past_call q r.1.1 m t (less m l) i
+        elim (call ps m (allocated ps (suc m) (state h (frame vs (Then (Invoking p es) b) ∷ [])) t r) h vs p es b [] t q r.1.1 (r, refl)) [
+          | inl i ↦ in_call q r.1.1 m _ t (less m l) i
+          | inr i ↦ past_call q r.1.1 m _ t (less m l) i
         ]
       where
         less : (m : ℕ) → suc m ≤ k → m < k
