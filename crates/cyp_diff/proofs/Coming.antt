@@ -1,5 +1,5 @@
 -- Rows that are relaxed hold the ways through the new bound.
-use Rattle.std.proofs.Common.{◌≡◌, ◌⊎◌, inl, inr, ℕ, zero, suc, ◌+◌, ◌*◌, ◌^◌, ◌<◌, ◌≤◌, ℤ, pos, neg_ℤ, ◌+ℤ◌, ◌≤ℤ◌, ◌<ℤ◌, int_lt, Bool, true, false, cond, List, [], ◌∷◌, length, get_or, map, refl, sym, ap, ap₂, ◌∙◌, subst, arith}
+use Rattle.std.proofs.Common.{◌≡◌, ◌⊎◌, inl, inr, ℕ, zero, suc, ◌*◌, ◌^◌, ◌<◌, ◌≤◌, ℤ, pos, neg_ℤ, ◌+ℤ◌, ◌≤ℤ◌, ◌<ℤ◌, int_lt, Bool, true, false, cond, List, [], ◌∷◌, length, get_or, map, refl, sym, ap, ◌∙◌, subst, arith}
 use Rattle.std.proofs.lemmas.Int.{ints, clamps}
 use Rattle.std.proofs.lemmas.Simd.{get_or-zip2, length-zip2}
 use Rattle.std.specs.Int.{int_min}
@@ -126,7 +126,7 @@ All-map_to P Q f (x ∷ xs) h g (suc k) d lt = All-map_to P Q f xs h (λ m e l. 
 adds : (rows : List (List ℤ)) (i j : ℕ) (c : ℤ) → AreBounds rows → i < length rows → j < length rows → IsSmall c → (distance rows j i <ℤ none → pos 0 ≤ℤ (distance rows j i +ℤ c)) → Adds (length rows) (distance rows) (distance (closer_rows rows i j c)) i j c
 adds rows i j c h li lj s k = record { closed = h.closed; few = h.few; first = li; second = lj; small = s; comes = comes rows i j c h li lj s; no_cycle = k }
 
-length-closer_rows : (rows : List (List ℤ)) (i j : ℕ) (c : ℤ) → length (closer_rows rows i j c) ≡ length rows
+pub length-closer_rows : (rows : List (List ℤ)) (i j : ℕ) (c : ℤ) → length (closer_rows rows i j c) ≡ length rows
 length-closer_rows rows i j c = length_map (closer i (map lifted (get_or rows j [])) c) rows
 
 -- the rows after the bound are bounds again
@@ -145,7 +145,6 @@ adding_means rows i j c h li lj s k =
     let d' : ℕ → ℕ → ℤ = distance (closer_rows rows i j c) in
     let same : length (closer_rows rows i j c) ≡ n = length-closer_rows rows i j c in
     let a : Adds n (distance rows) d' i j c = adds rows i j c h li lj s k in (
-      same,
       λ x. (
         λ m. let m' : AllMeet n x d' = subst (λ l. AllMeet l x d') same m in (meets_old n (distance rows) d' i j c a x m', meets_added n (distance rows) d' i j c a x m'),
         λ m. subst (λ l. AllMeet l x d') (sym same) (meets_new n (distance rows) d' i j c a x m.0 m.1),

@@ -1,10 +1,10 @@
 -- What integers meet before and after a bound is added, and integers that meet closed distances.
-use Rattle.std.proofs.Common.{◌≡◌, ◌⊎◌, inl, inr, ℕ, zero, suc, ◌+◌, ◌*◌, ◌^◌, ◌<◌, ◌≤◌, ℤ, pos, neg_ℤ, ◌+ℤ◌, ◌≤ℤ◌, ◌<ℤ◌, refl, sym, ap, ◌∙◌, subst, arith}
+use Rattle.std.proofs.Common.{◌≡◌, ◌⊎◌, inl, inr, ℕ, zero, suc, ◌<◌, ℤ, pos, ◌+ℤ◌, ◌≤ℤ◌, ◌<ℤ◌, refl, sym, ◌∙◌, subst, arith}
 use Rattle.std.proofs.lemmas.Int.{ints, clamps}
 use Rattle.std.specs.Int.{int_min}
-use Rattle.cyp_diff.specs.Distances.{none, Within, IsSmall}
+use Rattle.cyp_diff.specs.Distances.{none, Within}
 use Rattle.cyp_diff.specs.Closed.{IsClosed}
-use Rattle.cyp_diff.proofs.Closing.{Comes, Adds, lower_fin, through_fin}
+use Rattle.cyp_diff.proofs.Closing.{Adds, lower_fin, through_fin}
 
 -- the integers meet the distances between places below n
 abbrev pub AllMeet : ℕ → (ℕ → ℤ) → (ℕ → ℕ → ℤ) → Type 0

@@ -1,18 +1,18 @@
 -- What is read and written where a bound is added.
-use Rattle.std.proofs.Common.{◌≡◌, ◌⊎◌, inl, inr, ℕ, zero, suc, ◌+◌, ◌-◌, ◌*◌, ◌^◌, ◌<◌, ◌≤◌, ℤ, pos, negsuc, neg_ℤ, ◌+ℤ◌, ◌≤ℤ◌, ◌<ℤ◌, int_lt, Bool, true, false, cond, List, [], ◌∷◌, ◌++◌, length, get_or, take, drop, map, FitsSigned, to_z, of_z, w64, refl, sym, ap, ap₂, ◌∙◌, subst, add-one, append-nil, arith}
-use Rattle.std.proofs.lemmas.Int.{ints, clamps, to_z-of_z}
+use Rattle.std.proofs.Common.{◌≡◌, ◌⊎◌, inl, inr, ℕ, zero, suc, ◌+◌, ◌*◌, ◌^◌, ◌<◌, ◌≤◌, ℤ, pos, negsuc, neg_ℤ, ◌+ℤ◌, ◌≤ℤ◌, ◌<ℤ◌, int_lt, Bool, true, false, cond, List, [], ◌∷◌, ◌++◌, length, get_or, take, drop, map, FitsSigned, to_z, of_z, w64, refl, sym, ap, ap₂, ◌∙◌, subst, add-one, arith}
+use Rattle.std.proofs.lemmas.Int.{ints, to_z-of_z}
 use Rattle.std.proofs.Math.ListN.{set}
 use Rattle.std.specs.List.{All}
 use lib.Signed.{lt_z, mag}
 use Rattle.cyp_lanes.specs.Rows.{IsModest}
-use Rattle.cyp_diff.specs.Distances.{none, distance, IsSmall, Meets, Within}
+use Rattle.cyp_diff.specs.Distances.{none, distance, IsSmall}
 use Rattle.cyp_diff.specs.Relaxing.{lifted, closer, HasRoom}
-use Rattle.cyp_diff.specs.Closed.{IsClosed, AreBounds}
+use Rattle.cyp_diff.specs.Closed.{AreBounds}
 use Rattle.cyp_diff.specs.Adding.{AddMeans}
-use Rattle.cyp_diff.specs.declared.bounds.Adding.TheVariants.{Added, Contradiction}
-use Rattle.cyp_diff.proofs.Closing.{distance_least, distance_most}
-use Rattle.cyp_diff.proofs.Coming.{closer_rows, bounds_still, adding_means, length_map}
-use Rattle.cyp_diff.proofs.Mapping.{mapped_to, set-mapped, get_or-mapped, get_or-past, get_or-any}
+use Rattle.cyp_diff.specs.declared.bounds.Adding.TheVariants.{Contradiction}
+use Rattle.cyp_diff.proofs.Closing.{distance_least}
+use Rattle.cyp_diff.proofs.Coming.{closer_rows, length_map}
+use Rattle.cyp_diff.proofs.Mapping.{mapped_to, set-mapped, get_or-mapped, get_or-any}
 use Rattle.cyp_diff.proofs.Meeting.{meets_none}
 
 pub distance_read : (rows : List (List ℤ)) (row : List ℤ) (i j : ℕ) (d : ℤ) → AreBounds rows → i < 40 → j < length rows → row ≡ get_or rows j row → get_or row i d ≡ distance rows j i

@@ -101,7 +101,8 @@ impl Bounds {
         requires first { i < length self.old }
         requires second { j < length self.old }
         requires small { IsSmall c }
-        ensures { AddMeans i j c self.old self.new result }
+        ensures places { length self.new ≡ length self.old }
+        ensures means { AddMeans i j c self.old self.new result }
     {
         let back = self.rows[j as usize][i as usize];
         if back < NONE && back + c < 0 {

@@ -1,4 +1,4 @@
-use Rattle.std.proofs.Common.{◌≡◌, ◌≤ℤ◌, ◌<ℤ◌, ◌+ℤ◌, ◌<◌, ◌++◌, ℤ, List, length, take, drop, rules, pos, w64, get_or, FitsSigned, ap, sym, subst, subst₂, arith}
+use Rattle.std.proofs.Common.{◌≡◌, ◌≤ℤ◌, ◌<ℤ◌, ◌+ℤ◌, ◌<◌, ◌++◌, length, take, drop, rules, pos, w64, get_or, FitsSigned, ap, refl, sym, ◌∙◌, subst, subst₂, arith}
 use Rattle.std.specs.List.{All}
 use Rattle.cyp_lanes.specs.Rows.{IsModest}
 use Rattle.cyp_diff.specs.Relaxing.{HasRoom}
@@ -6,7 +6,7 @@ use Rattle.cyp_diff.specs.Adding.{AddMeans}
 use Rattle.cyp_diff.specs.Closed.{AreBounds}
 use Rattle.cyp_diff.specs.Distances.{none, distance}
 use Rattle.cyp_diff.specs.declared.bounds.Adding.TheVariants.{Added, Contradiction}
-use Rattle.cyp_diff.proofs.Coming.{adding_means, bounds_still, closer_rows}
+use Rattle.cyp_diff.proofs.Coming.{adding_means, bounds_still, closer_rows, length-closer_rows}
 use Rattle.cyp_diff.proofs.Reading.{Reads, back_fits, refused, far_back, long_back, room, modest, written}
 use Rattle.cyp_diff.proofs.bounds.Bounds.add.Goals.{else-back-lt-NONE-via-then-back-lt-NONE+else-back-c-lt0, else-back-lt-NONE-via-else-back-lt-NONE}
 use Rattle.cyp_diff.proofs.bounds.Bounds.add.Goals as goal
@@ -35,8 +35,11 @@ returns-then-back-c-lt0 c =
       is_row = c.index.ensures;
       fits = fits;
     } in
-    subst (λ rows. AddMeans c.args.i c.args.j c.args.c rows rows Contradiction) c.self.view_is
-    (refused c.self.inside.rows.items c.index.result.now c.args.i c.args.j c.args.c reads c.if-back-lt-NONE.true c.if-back-c-lt0.true)
+    record {
+      places = refl;
+      means = subst (λ rows. AddMeans c.args.i c.args.j c.args.c rows rows Contradiction) c.self.view_is
+          (refused c.self.inside.rows.items c.index.result.now c.args.i c.args.j c.args.c reads c.if-back-lt-NONE.true c.if-back-c-lt0.true);
+    }
 
 pub close-requires-clause-room : goal.close-requires-clause-room
 close-requires-clause-room c =
@@ -76,5 +79,8 @@ invariant_of-self c =
 
 pub returns : goal.returns
 returns c =
-    subst₂ (λ old new. AddMeans c.args.i c.args.j c.args.c old new Added) c.self.view_is (sym (written_is c))
-    (adding_means c.self.inside.rows.items c.args.i c.args.j c.args.c c.self.invariant (omega (arith, ap length c.self.view_is)) (omega (arith, ap length c.self.view_is)) c.requires.small (no_cycle c))
+    record {
+      places = ap length (written_is c) ∙ length-closer_rows c.self.inside.rows.items c.args.i c.args.j c.args.c ∙ ap length c.self.view_is;
+      means = subst₂ (λ old new. AddMeans c.args.i c.args.j c.args.c old new Added) c.self.view_is (sym (written_is c))
+          (adding_means c.self.inside.rows.items c.args.i c.args.j c.args.c c.self.invariant (omega (arith, ap length c.self.view_is)) (omega (arith, ap length c.self.view_is)) c.requires.small (no_cycle c));
+    }

@@ -1,4 +1,4 @@
-use Rattle.std.proofs.Common.{◌≡◌, ◌∙◌, ℕ, refl, sym, ap, subst, length, arith}
+use Rattle.std.proofs.Common.{◌≡◌, ◌∙◌, sym, ap, subst, length, arith}
 use Rattle.cyp_diff.specs.Closed.{AreBounds}
 use Rattle.cyp_diff.specs.Distances.{Meets}
 use Rattle.cyp_diff.proofs.Empty.{empty_row, empty_rows, bounds_empty, meets_empty, rows_step, length-empty_rows}
