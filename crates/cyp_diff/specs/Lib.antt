@@ -1,0 +1,4 @@
+pub mod Adding
+pub mod Closed
+pub mod Distances
+pub mod Relaxing

@@ -1,0 +1,115 @@
+ghost use Rattle.std.specs.Prelude.{◌≡◌, ℕ, ℤ, ◌+◌, ◌<◌, ◌≤◌, ◌+ℤ◌, ◌<ℤ◌, ◌≤ℤ◌, length, map, slice_index_or, IfOk};
+ghost use Rattle.std.specs.List.{All};
+ghost use Rattle.cyp_lanes.specs.Rows.{IsModest};
+ghost use Rattle.cyp_diff.specs.Adding.{AddMeans};
+ghost use Rattle.cyp_diff.specs.Distances.{IsSmall, Meets};
+ghost use Rattle.cyp_diff.specs.Relaxing.{HasRoom, closer, lifted};
+
+use cyp_lanes::relax_row;
+use cyp_term::NoMemory;
+use std::alloc::Global;
+use std::marker::Model;
+
+const WIDTH: usize = 40;
+
+const NONE: i64 = 1 << 60;
+
+const FAR: i64 = 1 << 61;
+
+/// Whether a bound could be added.
+#[derive(Clone, Copy, Debug, PartialEq, Eq)]
+pub enum Adding {
+    Added,
+    Contradiction,
+}
+
+/// Bounds on the differences between the integers at up to 33 places. Contracts see the distances that follow from them.
+#[derive(Debug, Drop)]
+pub struct Bounds {
+    rows: Vec<[i64; WIDTH]>,
+}
+
+impl Model for Bounds {
+    ghost use Rattle.std.specs.Prelude.{List, ℤ};
+    ghost use Rattle.cyp_diff.specs.Closed.{AreBounds};
+
+    ghost Value = { List (List ℤ) };
+
+    ghost view = { λ b. b.rows.items };
+
+    ghost invariant = { λ b. AreBounds b.rows.items };
+}
+
+fn lift_entry(entry: i64) -> i64
+    ensures { result ≡ lifted entry }
+{
+    if entry < NONE { entry } else { FAR }
+}
+
+fn lift(row: &[i64; WIDTH]) -> [i64; WIDTH]
+    ensures { result ≡ map lifted row.now }
+{
+    let mut out = *row;
+    for k in 0..WIDTH {
+        out[k] = lift_entry(out[k]);
+    }
+    out
+}
+
+fn come_closer(row: &mut [i64; WIDTH], i: usize, from: &[i64; WIDTH], c: i64)
+    requires place { i < 40 }
+    requires small { IsSmall c }
+    requires room { HasRoom i row.old }
+    requires modest { All IsModest from.now }
+    ensures { row.new ≡ closer i from.now c row.old }
+{
+    let far = row[i];
+    if far < NONE {
+        relax_row(row, from, far + c);
+    }
+}
+
+fn close(rows: &mut [[i64; WIDTH]], i: usize, from: &[i64; WIDTH], c: i64)
+    requires place { i < 40 }
+    requires small { IsSmall c }
+    requires room { All (HasRoom i) rows.old }
+    requires modest { All IsModest from.now }
+    ensures { rows.new ≡ map (closer i from.now c) rows.old }
+{
+    for row in rows.iter_mut() {
+        come_closer(row, i, from, c);
+    }
+}
+
+impl Bounds {
+    /// No bounds between `n` places, from 1 to 33.
+    pub fn new(alloc: Global, n: u8) -> Result<Bounds, NoMemory>
+        requires most { n ≤ 33 }
+        ensures { IfOk result (λ b. (length b ≡ n) × ((x : ℕ → ℤ) → Meets x b)) }
+    {
+        let mut rows = Vec::new(alloc);
+        for i in 0..n as usize {
+            let mut row = [NONE; WIDTH];
+            row[i] = 0;
+            rows.push(row)?;
+        }
+        Ok(Bounds { rows })
+    }
+
+    /// Adds that the integer at place `i`, less that at place `j`, is at most `c`. It takes no memory.
+    pub fn add(&mut self, i: u8, j: u8, c: i64) -> Adding
+        requires first { i < length self.old }
+        requires second { j < length self.old }
+        requires small { IsSmall c }
+        ensures places { length self.new ≡ length self.old }
+        ensures means { AddMeans i j c self.old self.new result }
+    {
+        let back = self.rows[j as usize][i as usize];
+        if back < NONE && back + c < 0 {
+            return Adding::Contradiction;
+        }
+        let from = lift(&self.rows[j as usize]);
+        close(&mut self.rows, i as usize, &from, c);
+        Adding::Added
+    }
+}

@@ -1,0 +1,9 @@
+//! Kernels over whole rows. They take no memory.
+#![tactic(auto)]
+
+mod rows;
+
+pub use rows::relax_row;
+
+#[cfg(test)]
+mod tests;
