@@ -25,6 +25,7 @@ pub mod NewNumber
 pub mod NormalBody
 pub mod NormalMeaning
 pub mod NormalReady
+pub mod NormalRules
 pub mod NormalSteady
 pub mod NumberMeaning
 pub mod OldVars
@@ -42,7 +43,10 @@ pub mod RuleWrite
 pub mod SidesAgree
 pub mod SolveMeaning
 pub mod SolvedTruth
+pub mod SteadyFlat
+pub mod SteadyNodes
 pub mod SteadyParts
+pub mod SteadyRules
 pub mod TidyMeaning
 pub mod UnfoldParams
 pub mod UnsortedMeaning

@@ -1,0 +1,121 @@
+-- What a rule leaves is as the rules ask where its instances fit and it is so beside them; so are the premises.
+use Rattle.std.proofs.Common.{◌≡◌, ◌∷◌, ◌&&◌, ◌==◌, refl, sym, ap, Bool, true, List, [], IfSome, IsTrue, Option, Some, is_none, slice_get, subst}
+use Rattle.std.specs.List.{All, AllByRecursion, list_all}
+use Rattle.std.proofs.lemmas.Bool.{and_parts}
+use Rattle.std.proofs.lemmas.List.Elements.{All-from_recursion, recursion_from_All}
+use Rattle.std.proofs.lemmas.Option.{option_and_then_some, same_Some}
+use Rattle.cyp_goal.proofs.LinksFit.{sides_fit}
+use Rattle.cyp_goal.proofs.LinksNormal.{FitsOver, IsKeptWithin, normal_fits}
+use Rattle.cyp_goal.specs.Facts.{facts}
+use Rattle.cyp_goal.specs.Normal.{Renaming, normal}
+use Rattle.cyp_heap.specs.Chunks.{insts}
+use Rattle.cyp_heap.specs.Formed.{inst_fits, insts_fit}
+use Rattle.cyp_heap.specs.PredsFormed.{IsFormedPreds, insts_plain}
+use Rattle.cyp_heap.specs.declared.chunk.InstOf.{InstOf}
+use Rattle.cyp_heap.specs.declared.goal.Node.{Node}
+use Rattle.cyp_heap.specs.declared.pred.Clause.{Clause}
+use Rattle.cyp_heap.specs.declared.pred.Pred.{Pred}
+use Rattle.cyp_heap.specs.declared.pred.Preds.{Preds}
+use Rattle.cyp_kernel.proofs.Allowed.{mapped_some}
+use Rattle.cyp_kernel.proofs.NormalRules.{Split, split}
+use Rattle.cyp_kernel.proofs.NormalSteady.{normal_is_steady}
+use Rattle.cyp_kernel.proofs.SteadyFlat.{AreSettled, alloc_steady, frame_steady, free_steady, pick_steady, read_steady, write_steady}
+use Rattle.cyp_kernel.proofs.SteadyNodes.{ChunkClear, ChunkSorted, IsSettled, settled_node, steady_from}
+use Rattle.cyp_kernel.specs.Steady.{IsSteady}
+use Rattle.cyp_kernel.specs.SteadyLaws.{IsSteadyNode, LeavesSteady, PremisesSteady}
+use Rattle.cyp_step.proofs.ChunkLists.{Every-slice_get}
+use Rattle.cyp_step.proofs.EachRule.{raws_left}
+use Rattle.cyp_step.proofs.RawNodes.{AreLeft, IsLeft, by_test}
+use Rattle.cyp_step.proofs.Root.{fits_over}
+use Rattle.cyp_step.specs.Changes.{post_of, pre_of}
+use Rattle.cyp_step.specs.Nodes.{IsOver, clause_fits, clauses_fit, pred_fits}
+use Rattle.cyp_step.specs.Shown.{shown}
+use Rattle.cyp_step.specs.Step.{all_normal, nodes_of, raws, renamed_premises}
+use Rattle.cyp_step.specs.declared.rule.Rule.{Rule}
+use Rattle.cyp_step.specs.declared.rule.Rule.TheVariants.{ByAlloc, ByEmp, ByFrame, ByFree, ByInconsistent, ByPick, ByRead, ByWrite}
+use Rattle.cyp_term.proofs.Lists.{each_at, each_from}
+use Rattle.cyp_term.specs.Entailment.{satisfiable}
+use Rattle.cyp_term.specs.declared.term.Var.{Var}
+use Rattle.cyp_unify.specs.Frames.{focus}
+use Rattle.std.proofs.Common.{length, ℕ}
+
+-- the instances in the clauses of formed predicates fit
+pub formed_clauses_fit : (preds : Preds) → IsFormedPreds preds → clauses_fit preds ≡ true
+formed_clauses_fit preds f =
+    each_from (pred_fits preds) preds.list (λ q k.
+    let plain = each_at (λ (q : Pred). list_all (λ (c : Clause). insts_plain preds c) q.clauses) q preds.list f.instances_plain k in
+    each_from (clause_fits preds) q.clauses (λ c l.
+    let plain_insts = each_at (λ (c : Clause). insts_plain preds c) c q.clauses plain l in
+    each_from (inst_fits preds) (insts c.heap.chunks) (λ i m.
+    (and_parts (inst_fits preds i) (is_none i.card)
+    (and_parts (inst_fits preds i && is_none i.card) (i.tag == 0)
+    (each_at (λ (i : InstOf). inst_fits preds i && is_none i.card && (i.tag == 0)) i (insts c.heap.chunks) plain_insts m)).0).0)))
+
+-- ---- before the normal form
+
+steady_each : (n : Node) → IsFormedPreds n.preds → (ms : List Node) → AllByRecursion (IsLeft n) ms → AllByRecursion IsSettled ms → AllByRecursion (IsOver n.preds IsSteady) ms
+steady_each n f [] a b = tt
+steady_each n f (m ∷ ms) a b = (
+  record {
+    same = a.0.same;
+    fact = steady_from m (fits_over n.preds m (record { same = a.0.same; sides = a.0.fits (formed_clauses_fit n.preds f) })) b.0;
+  },
+  steady_each n f ms a.1 b.1,
+)
+
+pub leaves_steady : (r : Rule) → ((n : Node) → IsFormedPreds n.preds → IsSteadyNode n → AreSettled (raws n r)) → LeavesSteady r
+leaves_steady r h n ms f w e =
+    All-from_recursion (IsOver n.preds IsSteady) ms
+    (steady_each n f ms (subst (AreLeft n) e (raws_left n w.node r)) (subst AreSettled e (h n f w)))
+
+-- ---- the premises
+
+premises_each : (preds : Preds) (ms : List Node) (rs : List Renaming) → AllByRecursion (IsOver preds IsSteady) ms → all_normal ms ≡ Some rs
+    → AllByRecursion (IsOver preds IsSteady) (nodes_of rs)
+premises_each preds [] rs h e = subst (λ (xs : List Renaming). AllByRecursion (IsOver preds IsSteady) (nodes_of xs)) (same_Some [] rs e) tt
+premises_each preds (m ∷ ms) rs h e =
+    let d : Split m ms rs = split m ms rs e in
+    let sides = sides_fit preds m.goal (subst (λ (p : Preds). IsTrue (insts_fit p m.goal)) h.0.same h.0.fact.fits) in
+    let kept : IsKeptWithin (FitsOver preds) d.first = subst (λ (o : Option Renaming). IfSome o (IsKeptWithin (FitsOver preds))) d.first_is (normal_fits preds m (record { same = h.0.same; sides = sides })) in
+    subst (λ (xs : List Renaming). AllByRecursion (IsOver preds IsSteady) (nodes_of xs)) (sym d.both)
+    (record { same = kept.fact.same; fact = normal_is_steady m d.first h.0.fact d.first_is }, premises_each preds ms d.others h.1 d.others_are)
+
+pub premises_steady : (r : Rule) → LeavesSteady r → PremisesSteady r
+premises_steady r leaves n ms f w e =
+    let a = mapped_some nodes_of (renamed_premises n r) ms e in
+    option_and_then_some all_normal (raws n r) a.0 a.1 (λ xs is d.
+    All-from_recursion (IsOver n.preds IsSteady) ms
+    (subst (AllByRecursion (IsOver n.preds IsSteady)) a.2 (premises_each n.preds xs a.0 (recursion_from_All (IsOver n.preds IsSteady) xs (leaves n xs f w is)) d)))
+
+-- ---- the rules that unfold nothing
+
+pub inconsistent_leaves : LeavesSteady ByInconsistent
+inconsistent_leaves = leaves_steady ByInconsistent (λ n f w. by_test (satisfiable (facts n.goal)) (λ e. rw (e, raws) tt) (λ e. rw (e, raws) tt))
+
+pub emp_leaves : LeavesSteady ByEmp
+emp_leaves =
+    leaves_steady ByEmp (λ n f w.
+    by_test (length (pre_of n) == 0 && length (post_of n) == 0 && length n.goal.exist == 0)
+    (λ e. rw (e, raws) (by_test (shown n.goal n.goal.pure_post) (λ d. rw d tt) (λ d. rw d tt)))
+    (λ e. rw (e, raws) tt))
+
+pub read_leaves : (i : ℕ) → LeavesSteady (ByRead i)
+read_leaves i = leaves_steady (ByRead i) (λ n f w. read_steady n w i (slice_get (pre_of n) i) (Every-slice_get (ChunkClear n.goal.exist) (pre_of n) i (settled_node n w).pre))
+
+pub frame_leaves : (i : ℕ) → LeavesSteady (ByFrame i)
+frame_leaves i = leaves_steady (ByFrame i) (λ n f w. frame_steady n w i)
+
+pub write_leaves : (i : ℕ) → LeavesSteady (ByWrite i)
+write_leaves i =
+    leaves_steady (ByWrite i) (λ n f w.
+    write_steady n w i (focus n.goal) (slice_get (pre_of n) i) (Every-slice_get ChunkSorted (post_of n) 0 (settled_node n w).post)
+    (Every-slice_get (ChunkClear n.goal.exist) (pre_of n) i (settled_node n w).pre))
+
+pub free_leaves : (i : ℕ) → LeavesSteady (ByFree i)
+free_leaves i = leaves_steady (ByFree i) (λ n f w. free_steady n w i (slice_get (pre_of n) i))
+
+pub alloc_leaves : LeavesSteady ByAlloc
+alloc_leaves = leaves_steady ByAlloc (λ n f w. alloc_steady n w (focus n.goal) (Every-slice_get ChunkSorted (post_of n) 0 (settled_node n w).post))
+
+pub pick_leaves : (v : Var) → LeavesSteady (ByPick v)
+pick_leaves v = leaves_steady (ByPick v) (λ n f w. pick_steady n w v)

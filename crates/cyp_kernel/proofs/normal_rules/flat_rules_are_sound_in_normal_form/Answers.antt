@@ -1,0 +1,36 @@
+use Rattle.cyp_kernel.proofs.NormalRules.{through_normal}
+use Rattle.cyp_kernel.proofs.RuleAlloc.{by_alloc}
+use Rattle.cyp_kernel.proofs.RuleEmp.{by_emp}
+use Rattle.cyp_kernel.proofs.RuleFrame.{by_frame}
+use Rattle.cyp_kernel.proofs.RuleFree.{by_free}
+use Rattle.cyp_kernel.proofs.RuleInconsistent.{by_inconsistent}
+use Rattle.cyp_kernel.proofs.RulePick.{by_pick}
+use Rattle.cyp_kernel.proofs.RuleRead.{by_read}
+use Rattle.cyp_kernel.proofs.RuleWrite.{by_write}
+use Rattle.cyp_kernel.proofs.SteadyRules.{alloc_leaves, emp_leaves, frame_leaves, free_leaves, inconsistent_leaves, pick_leaves, read_leaves, write_leaves}
+use Rattle.cyp_kernel.proofs.normal_rules.flat_rules_are_sound_in_normal_form.Goals as goal
+use Rattle.cyp_step.specs.declared.rule.Rule.TheVariants.{ByAlloc, ByEmp, ByFrame, ByFree, ByInconsistent, ByPick, ByRead, ByWrite}
+
+pub returns-clause-inconsistent : goal.returns-clause-inconsistent
+returns-clause-inconsistent c = through_normal ByInconsistent by_inconsistent inconsistent_leaves
+
+pub returns-clause-emp : goal.returns-clause-emp
+returns-clause-emp c = through_normal ByEmp by_emp emp_leaves
+
+pub returns-clause-read : goal.returns-clause-read
+returns-clause-read c i = through_normal (ByRead i) (by_read i) (read_leaves i)
+
+pub returns-clause-frame : goal.returns-clause-frame
+returns-clause-frame c i = through_normal (ByFrame i) (by_frame i) (frame_leaves i)
+
+pub returns-clause-write : goal.returns-clause-write
+returns-clause-write c i = through_normal (ByWrite i) (by_write i) (write_leaves i)
+
+pub returns-clause-free : goal.returns-clause-free
+returns-clause-free c i = through_normal (ByFree i) (by_free i) (free_leaves i)
+
+pub returns-clause-alloc : goal.returns-clause-alloc
+returns-clause-alloc c = through_normal ByAlloc by_alloc alloc_leaves
+
+pub returns-clause-pick : goal.returns-clause-pick
+returns-clause-pick c v = through_normal (ByPick v) (by_pick v) (pick_leaves v)

@@ -1,0 +1,25 @@
+-- What each node of a derivation keeps, from a rule to its premises.
+use Rattle.std.specs.Prelude.{IsTrue, List, Some, ◌≡◌}
+use Rattle.std.specs.List.{All, list_all}
+use Rattle.cyp_heap.specs.Goals.{node_vars}
+use Rattle.cyp_heap.specs.PredsFormed.{IsFormedPreds}
+use Rattle.cyp_heap.specs.declared.goal.Node.{Node}
+use Rattle.cyp_kernel.specs.Steady.{IsSteady}
+use Rattle.cyp_step.specs.Nodes.{IsNode, IsOver}
+use Rattle.cyp_step.specs.Step.{premises, raws}
+use Rattle.cyp_step.specs.declared.rule.Rule.{Rule}
+use Rattle.cyp_term.specs.Terms.{var_in}
+
+-- a node that is as the rules ask, within limits and well linked, each of whose existentials stands in it
+pub record IsSteadyNode (n : Node) : Type 0 where
+  pub node : IsNode n
+  pub steady : IsSteady n
+  pub exist_stand : IsTrue (list_all (λ v. var_in v (node_vars n)) n.goal.exist)
+
+-- what the rule leaves to do, before the normal form, is as the rules ask
+abbrev pub LeavesSteady : Rule → Type 0
+LeavesSteady r = (n : Node) (ms : List Node) → IsFormedPreds n.preds → IsSteadyNode n → raws n r ≡ Some ms → All (IsOver n.preds IsSteady) ms
+
+-- the premises of the rule are as the rules ask
+abbrev pub PremisesSteady : Rule → Type 0
+PremisesSteady r = (n : Node) (ms : List Node) → IsFormedPreds n.preds → IsSteadyNode n → premises n r ≡ Some ms → All (IsOver n.preds IsSteady) ms
