@@ -28,6 +28,7 @@ pub mod NormalReady
 pub mod NormalRules
 pub mod NormalSteady
 pub mod NumberMeaning
+pub mod NumberedVars
 pub mod OldVars
 pub mod PassedVars
 pub mod PlainCards

@@ -19,16 +19,18 @@ use Rattle.cyp_heap.specs.declared.pred.Preds.{Preds}
 use Rattle.cyp_kernel.proofs.Allowed.{mapped_some}
 use Rattle.cyp_kernel.proofs.NormalRules.{Split, split}
 use Rattle.cyp_kernel.proofs.NormalSteady.{normal_is_steady}
+use Rattle.cyp_kernel.proofs.NumberedVars.{normal_exist_stand}
 use Rattle.cyp_kernel.proofs.SteadyFlat.{AreSettled, alloc_steady, frame_steady, free_steady, pick_steady, read_steady, write_steady}
 use Rattle.cyp_kernel.proofs.SteadyNodes.{ChunkClear, ChunkSorted, IsSettled, settled_node, steady_from}
 use Rattle.cyp_kernel.specs.Steady.{IsSteady}
 use Rattle.cyp_kernel.specs.SteadyLaws.{IsSteadyNode, LeavesSteady, PremisesSteady}
 use Rattle.cyp_step.proofs.ChunkLists.{Every-slice_get}
 use Rattle.cyp_step.proofs.EachRule.{raws_left}
+use Rattle.cyp_step.proofs.Premises.{premises_are_nodes}
 use Rattle.cyp_step.proofs.RawNodes.{AreLeft, IsLeft, by_test}
 use Rattle.cyp_step.proofs.Root.{fits_over}
 use Rattle.cyp_step.specs.Changes.{post_of, pre_of}
-use Rattle.cyp_step.specs.Nodes.{IsOver, clause_fits, clauses_fit, pred_fits}
+use Rattle.cyp_step.specs.Nodes.{IsNode, IsOver, clause_fits, clauses_fit, pred_fits}
 use Rattle.cyp_step.specs.Shown.{shown}
 use Rattle.cyp_step.specs.Step.{all_normal, nodes_of, raws, renamed_premises}
 use Rattle.cyp_step.specs.declared.rule.Rule.{Rule}
@@ -71,21 +73,24 @@ leaves_steady r h n ms f w e =
 -- ---- the premises
 
 premises_each : (preds : Preds) (ms : List Node) (rs : List Renaming) → AllByRecursion (IsOver preds IsSteady) ms → all_normal ms ≡ Some rs
-    → AllByRecursion (IsOver preds IsSteady) (nodes_of rs)
-premises_each preds [] rs h e = subst (λ (xs : List Renaming). AllByRecursion (IsOver preds IsSteady) (nodes_of xs)) (same_Some [] rs e) tt
-premises_each preds (m ∷ ms) rs h e =
+    → AllByRecursion (IsOver preds IsNode) (nodes_of rs) → AllByRecursion (IsOver preds IsSteadyNode) (nodes_of rs)
+premises_each preds [] rs h e k = subst (λ (xs : List Renaming). AllByRecursion (IsOver preds IsSteadyNode) (nodes_of xs)) (same_Some [] rs e) tt
+premises_each preds (m ∷ ms) rs h e k =
     let d : Split m ms rs = split m ms rs e in
-    let sides = sides_fit preds m.goal (subst (λ (p : Preds). IsTrue (insts_fit p m.goal)) h.0.same h.0.fact.fits) in
-    let kept : IsKeptWithin (FitsOver preds) d.first = subst (λ (o : Option Renaming). IfSome o (IsKeptWithin (FitsOver preds))) d.first_is (normal_fits preds m (record { same = h.0.same; sides = sides })) in
-    subst (λ (xs : List Renaming). AllByRecursion (IsOver preds IsSteady) (nodes_of xs)) (sym d.both)
-    (record { same = kept.fact.same; fact = normal_is_steady m d.first h.0.fact d.first_is }, premises_each preds ms d.others h.1 d.others_are)
+    let nodes = subst (λ (xs : List Renaming). AllByRecursion (IsOver preds IsNode) (nodes_of xs)) d.both k in
+    let steady = normal_is_steady m d.first h.0.fact d.first_is in
+    let stand = normal_exist_stand m d.first h.0.fact d.first_is in
+    subst (λ (xs : List Renaming). AllByRecursion (IsOver preds IsSteadyNode) (nodes_of xs)) (sym d.both)
+    (record { same = nodes.0.same; fact = record { node = nodes.0.fact; steady = steady; exist_stand = stand } }, premises_each preds ms d.others h.1 d.others_are nodes.1)
 
 pub premises_steady : (r : Rule) → LeavesSteady r → PremisesSteady r
 premises_steady r leaves n ms f w e =
     let a = mapped_some nodes_of (renamed_premises n r) ms e in
+    let nodes = recursion_from_All (IsOver n.preds IsNode) ms (premises_are_nodes n r ms (formed_clauses_fit n.preds f) w.node e) in
     option_and_then_some all_normal (raws n r) a.0 a.1 (λ xs is d.
-    All-from_recursion (IsOver n.preds IsSteady) ms
-    (subst (AllByRecursion (IsOver n.preds IsSteady)) a.2 (premises_each n.preds xs a.0 (recursion_from_All (IsOver n.preds IsSteady) xs (leaves n xs f w is)) d)))
+    All-from_recursion (IsOver n.preds IsSteadyNode) ms
+    (subst (AllByRecursion (IsOver n.preds IsSteadyNode)) a.2
+    (premises_each n.preds xs a.0 (recursion_from_All (IsOver n.preds IsSteady) xs (leaves n xs f w is)) d (subst (AllByRecursion (IsOver n.preds IsNode)) (sym a.2) nodes))))
 
 -- ---- the rules that unfold nothing
 

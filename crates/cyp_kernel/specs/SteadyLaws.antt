@@ -1,6 +1,7 @@
 -- What each node of a derivation keeps, from a rule to its premises.
 use Rattle.std.specs.Prelude.{IsTrue, List, Some, ◌≡◌}
 use Rattle.std.specs.List.{All, list_all}
+use Rattle.cyp_goal.specs.Normal.{Renaming, normal}
 use Rattle.cyp_heap.specs.Goals.{node_vars}
 use Rattle.cyp_heap.specs.PredsFormed.{IsFormedPreds}
 use Rattle.cyp_heap.specs.declared.goal.Node.{Node}
@@ -20,6 +21,10 @@ pub record IsSteadyNode (n : Node) : Type 0 where
 abbrev pub LeavesSteady : Rule → Type 0
 LeavesSteady r = (n : Node) (ms : List Node) → IsFormedPreds n.preds → IsSteadyNode n → raws n r ≡ Some ms → All (IsOver n.preds IsSteady) ms
 
--- the premises of the rule are as the rules ask
+-- each existential of a normal form stands in it
+abbrev pub NormalExistStand : Type 0
+NormalExistStand = (n : Node) (r : Renaming) → IsSteady n → normal n ≡ Some r → IsTrue (list_all (λ v. var_in v (node_vars r.node)) r.node.goal.exist)
+
+-- the premises of the rule are such nodes again, over the same predicates
 abbrev pub PremisesSteady : Rule → Type 0
-PremisesSteady r = (n : Node) (ms : List Node) → IsFormedPreds n.preds → IsSteadyNode n → premises n r ≡ Some ms → All (IsOver n.preds IsSteady) ms
+PremisesSteady r = (n : Node) (ms : List Node) → IsFormedPreds n.preds → IsSteadyNode n → premises n r ≡ Some ms → All (IsOver n.preds IsSteadyNode) ms
