@@ -49,5 +49,7 @@ pub mod SteadyNodes
 pub mod SteadyParts
 pub mod SteadyRules
 pub mod TidyMeaning
+pub mod UnfoldEntries
 pub mod UnfoldParams
+pub mod UnfoldVars
 pub mod UnsortedMeaning
