@@ -48,6 +48,7 @@ pub mod SteadyFlat
 pub mod SteadyNodes
 pub mod SteadyParts
 pub mod SteadyRules
+pub mod SteadyUnfold
 pub mod TidyMeaning
 pub mod UnfoldEntries
 pub mod UnfoldParams

@@ -15,7 +15,7 @@ use Rattle.cyp_kernel.proofs.AgreeVars.{chunk_sorted, is_number_var, lit_sorted}
 use Rattle.cyp_kernel.proofs.AppliedVars.{joined}
 use Rattle.cyp_kernel.proofs.NewNumber.{first_new, int_var}
 use Rattle.cyp_kernel.proofs.NormalSteady.{among_at}
-use Rattle.cyp_kernel.proofs.OldVars.{IsOld, old_vars}
+use Rattle.cyp_kernel.proofs.OldVars.{IsOld, next_at, old_vars}
 use Rattle.cyp_kernel.proofs.SteadyParts.{slice_get-among, sorted_goal}
 use Rattle.cyp_kernel.specs.Steady.{IsSteady}
 use Rattle.cyp_kernel.specs.SteadyLaws.{IsSteadyNode}
@@ -76,10 +76,10 @@ module _ {A : Type 0} (test : A → Bool) (vars : A → List Var) (P : Var → T
   pub both_vars : (xs : List A) → AllByRecursion Both xs → Each P (flat_map vars xs)
   both_vars xs h v k = let x = flat_out vars v xs k in (Every-among Both x.0 xs h x.1).1 v x.2
 
-each_true : {A : Type 0} (test : A → Bool) (xs : List A) → list_all test xs ≡ true → AllByRecursion (λ x. test x ≡ true) xs
+pub each_true : {A : Type 0} (test : A → Bool) (xs : List A) → list_all test xs ≡ true → AllByRecursion (λ x. test x ≡ true) xs
 each_true test xs h = Every-from_among (λ x. test x ≡ true) xs (λ x k. each_at test x xs h k)
 
-tests_true : {A : Type 0} (test : A → Bool) (xs : List A) → AllByRecursion (λ x. test x ≡ true) xs → list_all test xs ≡ true
+pub tests_true : {A : Type 0} (test : A → Bool) (xs : List A) → AllByRecursion (λ x. test x ≡ true) xs → list_all test xs ≡ true
 tests_true test xs h = each_from test xs (λ x k. Every-among (λ x. test x ≡ true) x xs h k)
 
 -- no element of one list is in the other, told from either side
@@ -146,9 +146,12 @@ module _ (n : Node) (w : IsSteadyNode n) where
   pub exist_old : Each (IsOld (next_of n)) n.goal.exist
   exist_old v k = old_vars n v (in_among v _ (each_at (λ u. var_in u _) v n.goal.exist w.exist_stand k))
 
-  -- no new integer variable is an existential
-  pub new_clear : (k : ℕ) → first_new n ≤ k → Clear n.goal.exist (int_var k)
-  new_clear k l = false_from_ne_true (var_in (int_var k) n.goal.exist) (λ e. not_below k (first_new n) (exist_old (int_var k) (in_among (int_var k) n.goal.exist e)) l)
+  -- no new variable is an existential
+  pub fresh_clear : (v : Var) → next_at (next_of n) v.sort ≤ v.number → Clear n.goal.exist v
+  fresh_clear v l = false_from_ne_true (var_in v n.goal.exist) (λ e. not_below (next_at (next_of n) v.sort) v.number (exist_old v (in_among v n.goal.exist e)) l)
     where
-      not_below : (m k : ℕ) → m < k → k ≤ m → ⊥
+      not_below : (m k : ℕ) → k < m → m ≤ k → ⊥
       not_below m k h l = omega arith
+
+  pub new_clear : (k : ℕ) → first_new n ≤ k → Clear n.goal.exist (int_var k)
+  new_clear k l = fresh_clear (int_var k) l

@@ -22,6 +22,7 @@ use Rattle.cyp_kernel.proofs.NormalSteady.{normal_is_steady}
 use Rattle.cyp_kernel.proofs.NumberedVars.{normal_exist_stand}
 use Rattle.cyp_kernel.proofs.SteadyFlat.{AreSettled, alloc_steady, frame_steady, free_steady, pick_steady, read_steady, write_steady}
 use Rattle.cyp_kernel.proofs.SteadyNodes.{ChunkClear, ChunkSorted, IsSettled, settled_node, steady_from}
+use Rattle.cyp_kernel.proofs.SteadyUnfold.{close_steady, open_steady}
 use Rattle.cyp_kernel.specs.Steady.{IsSteady}
 use Rattle.cyp_kernel.specs.SteadyLaws.{IsSteadyNode, LeavesSteady, PremisesSteady}
 use Rattle.cyp_step.proofs.ChunkLists.{Every-slice_get}
@@ -34,7 +35,7 @@ use Rattle.cyp_step.specs.Nodes.{IsNode, IsOver, clause_fits, clauses_fit, pred_
 use Rattle.cyp_step.specs.Shown.{shown}
 use Rattle.cyp_step.specs.Step.{all_normal, nodes_of, raws, renamed_premises}
 use Rattle.cyp_step.specs.declared.rule.Rule.{Rule}
-use Rattle.cyp_step.specs.declared.rule.Rule.TheVariants.{ByAlloc, ByEmp, ByFrame, ByFree, ByInconsistent, ByPick, ByRead, ByWrite}
+use Rattle.cyp_step.specs.declared.rule.Rule.TheVariants.{ByAlloc, ByClose, ByEmp, ByFrame, ByFree, ByInconsistent, ByOpen, ByPick, ByRead, ByWrite}
 use Rattle.cyp_term.proofs.Lists.{each_at, each_from}
 use Rattle.cyp_term.specs.Entailment.{satisfiable}
 use Rattle.cyp_term.specs.declared.term.Var.{Var}
@@ -124,3 +125,11 @@ alloc_leaves = leaves_steady ByAlloc (λ n f w. alloc_steady n w (focus n.goal) 
 
 pub pick_leaves : (v : Var) → LeavesSteady (ByPick v)
 pick_leaves v = leaves_steady (ByPick v) (λ n f w. pick_steady n w v)
+
+-- ---- the rules that unfold an instance
+
+pub close_leaves : (c : ℕ) → LeavesSteady (ByClose c)
+close_leaves c = leaves_steady (ByClose c) (λ n f w. close_steady n f w c (focus n.goal) (Every-slice_get ChunkSorted (post_of n) 0 (settled_node n w).post))
+
+pub open_leaves : (i : ℕ) → LeavesSteady (ByOpen i)
+open_leaves i = leaves_steady (ByOpen i) (λ n f w. open_steady n f w i (slice_get (pre_of n) i) (Every-slice_get (ChunkClear n.goal.exist) (pre_of n) i (settled_node n w).pre))

@@ -15,6 +15,6 @@ pub use meaning::{
     formed_goal_is_ready, normal_form_is_ready, normal_form_is_steady, normal_form_keeps_bodies,
     normal_form_keeps_meaning, numbering_keeps_meaning, sorts_are_needed, steps_keep_meaning,
 };
-pub use normal_rules::flat_rules_are_sound_in_normal_form;
+pub use normal_rules::rules_are_sound_in_normal_form;
 pub use rules::{flat_rules_are_sound, unfolding_rules_are_sound};
-pub use steady::flat_rules_leave_steady;
+pub use steady::{premises_are_steady, rules_leave_steady};

@@ -1,5 +1,5 @@
-use Rattle.cyp_kernel.proofs.SteadyRules.{alloc_leaves, emp_leaves, frame_leaves, free_leaves, inconsistent_leaves, pick_leaves, read_leaves, write_leaves}
-use Rattle.cyp_kernel.proofs.steady.flat_rules_leave_steady.Goals as goal
+use Rattle.cyp_kernel.proofs.SteadyRules.{alloc_leaves, close_leaves, emp_leaves, frame_leaves, free_leaves, inconsistent_leaves, open_leaves, pick_leaves, read_leaves, write_leaves}
+use Rattle.cyp_kernel.proofs.steady.rules_leave_steady.Goals as goal
 
 pub returns-clause-inconsistent : goal.returns-clause-inconsistent
 returns-clause-inconsistent c = inconsistent_leaves
@@ -24,3 +24,9 @@ returns-clause-alloc c = alloc_leaves
 
 pub returns-clause-pick : goal.returns-clause-pick
 returns-clause-pick c = pick_leaves
+
+pub returns-clause-close : goal.returns-clause-close
+returns-clause-close c = close_leaves
+
+pub returns-clause-open : goal.returns-clause-open
+returns-clause-open c = open_leaves

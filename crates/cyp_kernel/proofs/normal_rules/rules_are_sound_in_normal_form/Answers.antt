@@ -1,5 +1,6 @@
 use Rattle.cyp_kernel.proofs.NormalRules.{through_normal}
 use Rattle.cyp_kernel.proofs.RuleAlloc.{by_alloc}
+use Rattle.cyp_kernel.proofs.RuleClose.{by_close}
 use Rattle.cyp_kernel.proofs.RuleEmp.{by_emp}
 use Rattle.cyp_kernel.proofs.RuleFrame.{by_frame}
 use Rattle.cyp_kernel.proofs.RuleFree.{by_free}
@@ -7,9 +8,12 @@ use Rattle.cyp_kernel.proofs.RuleInconsistent.{by_inconsistent}
 use Rattle.cyp_kernel.proofs.RulePick.{by_pick}
 use Rattle.cyp_kernel.proofs.RuleRead.{by_read}
 use Rattle.cyp_kernel.proofs.RuleWrite.{by_write}
-use Rattle.cyp_kernel.proofs.SteadyRules.{alloc_leaves, emp_leaves, frame_leaves, free_leaves, inconsistent_leaves, pick_leaves, read_leaves, write_leaves}
-use Rattle.cyp_kernel.proofs.normal_rules.flat_rules_are_sound_in_normal_form.Goals as goal
-use Rattle.cyp_step.specs.declared.rule.Rule.TheVariants.{ByAlloc, ByEmp, ByFrame, ByFree, ByInconsistent, ByPick, ByRead, ByWrite}
+use Rattle.cyp_kernel.proofs.SteadyRules.{alloc_leaves, close_leaves, emp_leaves, frame_leaves, free_leaves, inconsistent_leaves, pick_leaves, read_leaves, write_leaves}
+use Rattle.cyp_kernel.proofs.normal_rules.rules_are_sound_in_normal_form.Goals as goal
+use Rattle.cyp_step.specs.declared.rule.Rule.TheVariants.{ByAlloc, ByClose, ByEmp, ByFrame, ByFree, ByInconsistent, ByPick, ByRead, ByWrite}
+
+pub returns-clause-each : goal.returns-clause-each
+returns-clause-each c = through_normal
 
 pub returns-clause-inconsistent : goal.returns-clause-inconsistent
 returns-clause-inconsistent c = through_normal ByInconsistent by_inconsistent inconsistent_leaves
@@ -34,3 +38,6 @@ returns-clause-alloc c = through_normal ByAlloc by_alloc alloc_leaves
 
 pub returns-clause-pick : goal.returns-clause-pick
 returns-clause-pick c v = through_normal (ByPick v) (by_pick v) (pick_leaves v)
+
+pub returns-clause-close : goal.returns-clause-close
+returns-clause-close c k = through_normal (ByClose k) (by_close k) (close_leaves k)
