@@ -20,6 +20,7 @@ pub mod HeapCells
 pub mod HeapParts
 pub mod HeapRemoved
 pub mod LowerMeasures
+pub mod MatchVars
 pub mod NamedValues
 pub mod NewNumber
 pub mod NormalBody

@@ -17,7 +17,7 @@ use Rattle.cyp_kernel.specs.Naming.{Names}
 use Rattle.cyp_kernel.specs.NormalRules.{AllMeetRenamed, NormalRuleLaw}
 use Rattle.cyp_kernel.specs.RuleLaws.{AllMeet, RuleLaw}
 use Rattle.cyp_kernel.specs.Steady.{IsSteady}
-use Rattle.cyp_kernel.specs.SteadyLaws.{LeavesSteady, PremisesSteady}
+use Rattle.cyp_kernel.specs.SteadyLaws.{IsSteadyRaw, LeavesSteady}
 use Rattle.cyp_prog.specs.Programs.{Body, Procedure}
 use Rattle.cyp_step.specs.Nodes.{IsOver}
 use Rattle.cyp_step.specs.Step.{all_normal, nodes_of, raws, renamed_premises}
@@ -40,7 +40,7 @@ split m ms rs e =
 
 -- bodies that meet the goals of the normal forms meet those of the nodes
 meet_before : (ps : List Procedure) (names : Names) (k : ℕ) (preds : Preds) (ms : List Node) (rs : List Renaming) (bs : List Body)
-    → AllByRecursion (IsOver preds IsSteady) ms → all_normal ms ≡ Some rs → AllMeetRenamed ps names k rs bs → AllMeet ps names k ms bs
+    → AllByRecursion (IsOver preds IsSteadyRaw) ms → all_normal ms ≡ Some rs → AllMeetRenamed ps names k rs bs → AllMeet ps names k ms bs
 meet_before ps names k preds [] rs [] s e h = tt
 meet_before ps names k preds [] rs (b ∷ bs) s e h = subst (λ (xs : List Renaming). AllMeetRenamed ps names k xs (b ∷ bs)) (sym (same_Some [] rs e)) h
 meet_before ps names k preds (m ∷ ms) rs [] s e h =
@@ -49,12 +49,12 @@ meet_before ps names k preds (m ∷ ms) rs [] s e h =
 meet_before ps names k preds (m ∷ ms) rs (b ∷ bs) s e h =
     let d : Split m ms rs = split m ms rs e in
     let both = subst (λ (xs : List Renaming). AllMeetRenamed ps names k xs (b ∷ bs)) d.both h in (
-      normal_bodies m d.first (steady_is_ready m s.0.fact) d.first_is ps names k b both.0,
+      normal_bodies m d.first (steady_is_ready m s.0.fact.steady) d.first_is ps names k b both.0,
       meet_before ps names k preds ms d.others bs s.1 d.others_are both.1,
     )
 
 pub through_normal : (rule : Rule) → RuleLaw rule → LeavesSteady rule → NormalRuleLaw rule
 through_normal rule law leaves ps n rs bs names procs next k formed w naming is callee all =
     option_and_then_some all_normal (raws n rule) rs is (λ ms e d.
-    law ps n ms bs names procs next k w.steady formed naming e callee
-    (meet_before ps (with_new_name n rule next names) k n.preds ms rs bs (recursion_from_All (IsOver n.preds IsSteady) ms (leaves n ms formed w e)) d all))
+    law ps n ms bs names procs next k w.raw.steady formed naming e callee
+    (meet_before ps (with_new_name n rule next names) k n.preds ms rs bs (recursion_from_All (IsOver n.preds IsSteadyRaw) ms (leaves n ms formed w e)) d all))

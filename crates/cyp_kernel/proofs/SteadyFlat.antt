@@ -147,7 +147,7 @@ module _ (n : Node) (w : IsSteadyNode n) where
       among_new u old v k (inr m) = absurd m
 
   -- one premise with the same existentials and companions
-  one : (g : Goal) → exist ≡ g.exist → ProgramRight exist g.program → AllByRecursion (LitClear exist) g.pure_pre → AllByRecursion (ChunkClear exist) g.pre.chunks
+  pub one : (g : Goal) → exist ≡ g.exist → ProgramRight exist g.program → AllByRecursion (LitClear exist) g.pure_pre → AllByRecursion (ChunkClear exist) g.pre.chunks
       → AllByRecursion LitSorted g.pure_post → AllByRecursion ChunkSorted g.post.chunks → AreSettled (Some (record n { goal = g } ∷ []))
   one g e p a b c d = (
     record {
@@ -160,11 +160,12 @@ module _ (n : Node) (w : IsSteadyNode n) where
       pure_post = c;
       post = d;
       links = subst (λ (vs : List Var). AllByRecursion (LinkClear vs) n.links) e s.links;
+      companions = s.companions;
     },
     tt,
   )
 
-  lits_and : (ls : List Lit) → AllByRecursion (LitClear exist) ls → AllByRecursion (LitClear exist) (n.goal.pure_pre ++ ls)
+  pub lits_and : (ls : List Lit) → AllByRecursion (LitClear exist) ls → AllByRecursion (LitClear exist) (n.goal.pure_pre ++ ls)
   lits_and ls h = Every-append (LitClear exist) n.goal.pure_pre ls s.pure_pre h
 
   post_and : (ls : List Lit) → AllByRecursion LitSorted ls → AllByRecursion LitSorted (n.goal.pure_post ++ ls)

@@ -4,7 +4,7 @@ use Rattle.std.specs.List.{AllByRecursion, list_all}
 use Rattle.std.proofs.lemmas.Bool.{and_from, and_parts, both_ways, cases_Bool, false_from_ne_true, not-true}
 use Rattle.cyp_goal.proofs.EachVar.{Each}
 use Rattle.cyp_goal.proofs.Live.{among_in, in_among}
-use Rattle.cyp_goal.specs.Raw.{link_fits}
+use Rattle.cyp_goal.specs.Raw.{goal_fits, link_fits}
 use Rattle.cyp_heap.specs.Chunks.{chunk_vars, chunks_vars}
 use Rattle.cyp_heap.specs.Formed.{all_differ, insts_fit}
 use Rattle.cyp_heap.specs.Goals.{image_vars}
@@ -18,7 +18,7 @@ use Rattle.cyp_kernel.proofs.NormalSteady.{among_at}
 use Rattle.cyp_kernel.proofs.OldVars.{IsOld, next_at, old_vars}
 use Rattle.cyp_kernel.proofs.SteadyParts.{slice_get-among, sorted_goal}
 use Rattle.cyp_kernel.specs.Steady.{IsSteady}
-use Rattle.cyp_kernel.specs.SteadyLaws.{IsSteadyNode}
+use Rattle.cyp_kernel.specs.SteadyLaws.{IsSteadyNode, IsSteadyRaw}
 use Rattle.cyp_step.specs.Changes.{next_of}
 use Rattle.cyp_term.proofs.Lists.{Among, Among-left, Among-right, Every-among, Every-from_among, each_at, each_from, flat_in, flat_out}
 use Rattle.cyp_term.specs.Terms.{is_set_var, lit_vars, lits_vars, sort_eq, var_in}
@@ -48,6 +48,9 @@ LitSorted l = lit_sorted l ≡ true
 abbrev pub ChunkSorted : Chunk → Type 0
 ChunkSorted c = chunk_sorted c ≡ true
 
+abbrev pub CompanionSorted : Link → Type 0
+CompanionSorted k = goal_fits is_number_var is_set_var k.goal ≡ true
+
 -- what the rules ask of a node, but for its instances
 pub record IsSettled (n : Node) : Type 0 where
   pub program_int : list_all (λ (v : Var). sort_eq v.sort Int) n.goal.program ≡ true
@@ -59,6 +62,7 @@ pub record IsSettled (n : Node) : Type 0 where
   pub pure_post : AllByRecursion LitSorted n.goal.pure_post
   pub post : AllByRecursion ChunkSorted n.goal.post.chunks
   pub links : AllByRecursion (LinkClear n.goal.exist) n.links
+  pub companions : AllByRecursion CompanionSorted n.links
 
 -- ---- between the two
 
@@ -93,8 +97,9 @@ apart_of exist vs e =
     each_from (λ v. not (var_in v vs)) exist (λ v k.
     ⊎_elim (λ i. absurd (both_ways (var_in v exist) (e v (in_among v vs i)) (among_in v exist k))) (λ i. ap not i) (cases_Bool (var_in v vs)))
 
-pub settled : (n : Node) → IsSteady n → IsSettled n
-settled n s =
+pub settled : (n : Node) → IsSteadyRaw n → IsSettled n
+settled n raw =
+    let s : IsSteady n = raw.steady in
     let exist = n.goal.exist in
     let lits = lits_vars n.goal.pure_pre in
     let chunks = chunks_vars n.goal.pre.chunks in
@@ -113,15 +118,16 @@ settled n s =
           let at = among_at k n.links i in
           (each_at (link_fits is_number_var is_set_var) k n.links (and_parts _ (list_all (link_fits is_number_var is_set_var) n.links) s.sorted).1 i,
           λ v j. s.exist_images k at.0 v at.1 (among_in v (image_vars k.map) j)));
+      companions = each_true (λ (k : Link). goal_fits is_number_var is_set_var k.goal) n.links raw.companions;
     }
 
-pub steady_from : (n : Node) → IsTrue (insts_fit n.preds n.goal) → IsSettled n → IsSteady n
+pub steady_from : (n : Node) → IsTrue (insts_fit n.preds n.goal) → IsSettled n → IsSteadyRaw n
 steady_from n fits s =
     let exist = n.goal.exist in
     let C : Var → Type 0 = Clear exist in
     let lits = lits_vars n.goal.pure_pre in
     let chunks = chunks_vars n.goal.pre.chunks in
-    record {
+    let steady : IsSteady n = record {
       sorted = and_from _ _ (and_from _ _ (and_from _ _ (and_from _ _
       (both_tests lit_sorted lit_vars C n.goal.pure_pre s.pure_pre) (both_tests chunk_sorted chunk_vars C n.goal.pre.chunks s.pre))
       (tests_true lit_sorted n.goal.pure_post s.pure_post)) (tests_true chunk_sorted n.goal.post.chunks s.post))
@@ -135,13 +141,14 @@ steady_from n fits s =
           (both_vars chunk_sorted chunk_vars C n.goal.pre.chunks s.pre));
       exist_images = λ k i v at h.
           (Every-among (LinkClear exist) k n.links s.links (slice_get-among n.links i k at)).1 v (in_among v (image_vars k.map) h);
-    }
+    } in
+    record { steady = steady; companions = tests_true (λ (k : Link). goal_fits is_number_var is_set_var k.goal) n.links s.companions }
 
 -- ---- old and new variables
 
 module _ (n : Node) (w : IsSteadyNode n) where
   pub settled_node : IsSettled n
-  settled_node = settled n w.steady
+  settled_node = settled n w.raw
 
   pub exist_old : Each (IsOld (next_of n)) n.goal.exist
   exist_old v k = old_vars n v (in_among v _ (each_at (λ u. var_in u _) v n.goal.exist w.exist_stand k))

@@ -1,17 +1,22 @@
 -- What a rule leaves is as the rules ask where its instances fit and it is so beside them; so are the premises.
-use Rattle.std.proofs.Common.{◌≡◌, ◌∷◌, ◌&&◌, ◌==◌, refl, sym, ap, Bool, true, List, [], IfSome, IsTrue, Option, Some, is_none, slice_get, subst}
+use Rattle.std.proofs.Common.{◌≡◌, ◌∷◌, ◌&&◌, ◌==◌, refl, sym, ap, Bool, true, List, [], IfSome, IsTrue, Option, Some, is_none, map, slice_get, subst}
 use Rattle.std.specs.List.{All, AllByRecursion, list_all}
-use Rattle.std.proofs.lemmas.Bool.{and_parts}
+use Rattle.std.proofs.lemmas.Bool.{and_from, and_parts}
 use Rattle.std.proofs.lemmas.List.Elements.{All-from_recursion, recursion_from_All}
 use Rattle.std.proofs.lemmas.Option.{option_and_then_some, same_Some}
 use Rattle.cyp_goal.proofs.LinksFit.{sides_fit}
-use Rattle.cyp_goal.proofs.LinksNormal.{FitsOver, IsKeptWithin, normal_fits}
+use Rattle.cyp_goal.proofs.LinksNormal.{IsKept, IsKeptWithin, normal_kept}
 use Rattle.cyp_goal.specs.Facts.{facts}
+use Rattle.cyp_goal.specs.Raw.{goal_fits}
+use Rattle.cyp_kernel.proofs.AgreeVars.{is_number_var}
 use Rattle.cyp_goal.specs.Normal.{Renaming, normal}
 use Rattle.cyp_heap.specs.Chunks.{insts}
 use Rattle.cyp_heap.specs.Formed.{inst_fits, insts_fit}
 use Rattle.cyp_heap.specs.PredsFormed.{IsFormedPreds, insts_plain}
 use Rattle.cyp_heap.specs.declared.chunk.InstOf.{InstOf}
+use Rattle.cyp_heap.specs.Goals.{apply_link}
+use Rattle.cyp_heap.specs.declared.goal.Goal.{Goal}
+use Rattle.cyp_heap.specs.declared.goal.Link.{Link}
 use Rattle.cyp_heap.specs.declared.goal.Node.{Node}
 use Rattle.cyp_heap.specs.declared.pred.Clause.{Clause}
 use Rattle.cyp_heap.specs.declared.pred.Pred.{Pred}
@@ -24,7 +29,7 @@ use Rattle.cyp_kernel.proofs.SteadyFlat.{AreSettled, alloc_steady, frame_steady,
 use Rattle.cyp_kernel.proofs.SteadyNodes.{ChunkClear, ChunkSorted, IsSettled, settled_node, steady_from}
 use Rattle.cyp_kernel.proofs.SteadyUnfold.{close_steady, open_steady}
 use Rattle.cyp_kernel.specs.Steady.{IsSteady}
-use Rattle.cyp_kernel.specs.SteadyLaws.{IsSteadyNode, LeavesSteady, PremisesSteady}
+use Rattle.cyp_kernel.specs.SteadyLaws.{IsSteadyNode, IsSteadyRaw, LeavesSteady, PremisesSteady, companions_sorted}
 use Rattle.cyp_step.proofs.ChunkLists.{Every-slice_get}
 use Rattle.cyp_step.proofs.EachRule.{raws_left}
 use Rattle.cyp_step.proofs.Premises.{premises_are_nodes}
@@ -38,6 +43,7 @@ use Rattle.cyp_step.specs.declared.rule.Rule.{Rule}
 use Rattle.cyp_step.specs.declared.rule.Rule.TheVariants.{ByAlloc, ByClose, ByEmp, ByFrame, ByFree, ByInconsistent, ByOpen, ByPick, ByRead, ByWrite}
 use Rattle.cyp_term.proofs.Lists.{each_at, each_from}
 use Rattle.cyp_term.specs.Entailment.{satisfiable}
+use Rattle.cyp_term.specs.Terms.{is_set_var}
 use Rattle.cyp_term.specs.declared.term.Var.{Var}
 use Rattle.cyp_unify.specs.Frames.{focus}
 use Rattle.std.proofs.Common.{length, ℕ}
@@ -56,7 +62,7 @@ formed_clauses_fit preds f =
 
 -- ---- before the normal form
 
-steady_each : (n : Node) → IsFormedPreds n.preds → (ms : List Node) → AllByRecursion (IsLeft n) ms → AllByRecursion IsSettled ms → AllByRecursion (IsOver n.preds IsSteady) ms
+steady_each : (n : Node) → IsFormedPreds n.preds → (ms : List Node) → AllByRecursion (IsLeft n) ms → AllByRecursion IsSettled ms → AllByRecursion (IsOver n.preds IsSteadyRaw) ms
 steady_each n f [] a b = tt
 steady_each n f (m ∷ ms) a b = (
   record {
@@ -68,21 +74,42 @@ steady_each n f (m ∷ ms) a b = (
 
 pub leaves_steady : (r : Rule) → ((n : Node) → IsFormedPreds n.preds → IsSteadyNode n → AreSettled (raws n r)) → LeavesSteady r
 leaves_steady r h n ms f w e =
-    All-from_recursion (IsOver n.preds IsSteady) ms
+    All-from_recursion (IsOver n.preds IsSteadyRaw) ms
     (steady_each n f ms (subst (AreLeft n) e (raws_left n w.node r)) (subst AreSettled e (h n f w)))
 
 -- ---- the premises
 
-premises_each : (preds : Preds) (ms : List Node) (rs : List Renaming) → AllByRecursion (IsOver preds IsSteady) ms → all_normal ms ≡ Some rs
+-- the normal form leaves the companions' goals
+companions_kept : IsKept (λ n. companions_sorted n ≡ true)
+companions_kept = record {
+  applied = λ by k n h. same_goals (apply_link by) (λ l. refl) n.links h;
+  beside = λ n g e f h. h;
+  maps = λ n to h. same_goals (λ (k : Link). record k { map = to k }) (λ l. refl) n.links h;
+}
+  where
+    same_goals : (f : Link → Link) → ((l : Link) → (f l).goal ≡ l.goal) → (ls : List Link) → list_all (λ (k : Link). goal_fits is_number_var is_set_var k.goal) ls ≡ true
+        → list_all (λ (k : Link). goal_fits is_number_var is_set_var k.goal) (map f ls) ≡ true
+    same_goals f e [] h = refl
+    same_goals f e (l ∷ ls) h =
+        let both = and_parts (goal_fits is_number_var is_set_var l.goal) (list_all (λ (k : Link). goal_fits is_number_var is_set_var k.goal) ls) h in
+        and_from (goal_fits is_number_var is_set_var (f l).goal) (list_all (λ (k : Link). goal_fits is_number_var is_set_var k.goal) (map f ls))
+        (subst (λ (g : Goal). goal_fits is_number_var is_set_var g ≡ true) (sym (e l)) both.0) (same_goals f e ls both.1)
+
+normal_companions : (n : Node) (r : Renaming) → companions_sorted n ≡ true → normal n ≡ Some r → companions_sorted r.node ≡ true
+normal_companions n r h e =
+    let k : IsKeptWithin (λ m. companions_sorted m ≡ true) r = subst (λ (o : Option Renaming). IfSome o (IsKeptWithin (λ m. companions_sorted m ≡ true))) e (normal_kept (λ m. companions_sorted m ≡ true) companions_kept n h) in
+    k.fact
+
+premises_each : (preds : Preds) (ms : List Node) (rs : List Renaming) → AllByRecursion (IsOver preds IsSteadyRaw) ms → all_normal ms ≡ Some rs
     → AllByRecursion (IsOver preds IsNode) (nodes_of rs) → AllByRecursion (IsOver preds IsSteadyNode) (nodes_of rs)
 premises_each preds [] rs h e k = subst (λ (xs : List Renaming). AllByRecursion (IsOver preds IsSteadyNode) (nodes_of xs)) (same_Some [] rs e) tt
 premises_each preds (m ∷ ms) rs h e k =
     let d : Split m ms rs = split m ms rs e in
     let nodes = subst (λ (xs : List Renaming). AllByRecursion (IsOver preds IsNode) (nodes_of xs)) d.both k in
-    let steady = normal_is_steady m d.first h.0.fact d.first_is in
-    let stand = normal_exist_stand m d.first h.0.fact d.first_is in
+    let steady = normal_is_steady m d.first h.0.fact.steady d.first_is in
+    let stand = normal_exist_stand m d.first h.0.fact.steady d.first_is in
     subst (λ (xs : List Renaming). AllByRecursion (IsOver preds IsSteadyNode) (nodes_of xs)) (sym d.both)
-    (record { same = nodes.0.same; fact = record { node = nodes.0.fact; steady = steady; exist_stand = stand } }, premises_each preds ms d.others h.1 d.others_are nodes.1)
+    (record { same = nodes.0.same; fact = record { node = nodes.0.fact; raw = record { steady = steady; companions = normal_companions m d.first h.0.fact.companions d.first_is }; exist_stand = stand } }, premises_each preds ms d.others h.1 d.others_are nodes.1)
 
 pub premises_steady : (r : Rule) → LeavesSteady r → PremisesSteady r
 premises_steady r leaves n ms f w e =
@@ -91,7 +118,7 @@ premises_steady r leaves n ms f w e =
     option_and_then_some all_normal (raws n r) a.0 a.1 (λ xs is d.
     All-from_recursion (IsOver n.preds IsSteadyNode) ms
     (subst (AllByRecursion (IsOver n.preds IsSteadyNode)) a.2
-    (premises_each n.preds xs a.0 (recursion_from_All (IsOver n.preds IsSteady) xs (leaves n xs f w is)) d (subst (AllByRecursion (IsOver n.preds IsNode)) (sym a.2) nodes))))
+    (premises_each n.preds xs a.0 (recursion_from_All (IsOver n.preds IsSteadyRaw) xs (leaves n xs f w is)) d (subst (AllByRecursion (IsOver n.preds IsNode)) (sym a.2) nodes))))
 
 -- ---- the rules that unfold nothing
 

@@ -5,7 +5,7 @@ use Rattle.std.proofs.lemmas.Bool.{and_from, and_parts, false_from_ne_true, not-
 use Rattle.std.proofs.lemmas.List.Folds.{list_any-append}
 use Rattle.cyp_goal.proofs.EachVar.{Each, EachPart, first, link_vars, second}
 use Rattle.cyp_goal.proofs.Live.{in_among}
-use Rattle.cyp_goal.specs.Raw.{arg_fits, images_fit, link_fits, set_fits, term_fits}
+use Rattle.cyp_goal.specs.Raw.{arg_fits, goal_fits, images_fit, link_fits, set_fits, term_fits}
 use Rattle.cyp_heap.specs.Chunks.{arg_vars, card_vars, chunk_vars, insts, put_all, without}
 use Rattle.cyp_heap.specs.Formed.{all_differ}
 use Rattle.cyp_heap.specs.Goals.{image_vars, node_vars}
@@ -21,7 +21,7 @@ use Rattle.cyp_kernel.proofs.NewNumber.{int_var, old_parts}
 use Rattle.cyp_kernel.proofs.OldVars.{IsOld}
 use Rattle.cyp_kernel.proofs.RuleClose.{from_first, own_apart, own_vars}
 use Rattle.cyp_kernel.proofs.SteadyFlat.{AreSettled, differ_join}
-use Rattle.cyp_kernel.proofs.SteadyNodes.{ChunkClear, ChunkSorted, Clear, IsSettled, LinkClear, LitClear, LitSorted, both_tests, both_vars, each_both, exist_old, fresh_clear, new_clear, settled_node, tests_true}
+use Rattle.cyp_kernel.proofs.SteadyNodes.{ChunkClear, ChunkSorted, Clear, CompanionSorted, IsSettled, LinkClear, LitClear, LitSorted, both_tests, both_vars, each_both, exist_old, fresh_clear, new_clear, settled_node, tests_true}
 use Rattle.cyp_kernel.proofs.UnfoldEntries.{entries_have}
 use Rattle.cyp_kernel.proofs.UnfoldParams.{set_numbered}
 use Rattle.cyp_kernel.proofs.UnfoldVars.{ArgHas, ChunkHas, LitHas, NewHave, UnfoldedHas}
@@ -117,6 +117,7 @@ module _ (n : Node) (formed : IsFormedPreds n.preds) (w : IsSteadyNode n) where
         links = Every-from_among (LinkClear (exist ++ own)) n.links (λ k i.
             let h = Every-among (LinkClear exist) k n.links s.links i in
             (h.0, λ v m. still v (h.1 v m) (old.links v (flat_in link_vars v k n.links i (Among-right v (flat_map term_vars k.tuple) (image_vars k.map) m)))));
+        companions = s.companions;
       }
 
   pub close_steady : (c : ℕ) (o : Option Chunk) → IfSome o ChunkSorted → AreSettled (raw_close n c o)
@@ -229,6 +230,7 @@ module _ (n : Node) (formed : IsFormedPreds n.preds) (w : IsSteadyNode n) where
         pure_post = s.pure_post;
         post = s.post;
         links = Every-append (LinkClear exist) n.links (open_link n i j ∷ []) s.links (link_clear i j both.1, tt);
+        companions = Every-append CompanionSorted n.links (open_link n i j ∷ []) s.companions ((and_parts (goal_fits is_number_var is_set_var n.goal) (list_all (link_fits is_number_var is_set_var) n.links) w.raw.steady.sorted).0, tt);
       })
       entries all))
       (λ e. rw e tt)

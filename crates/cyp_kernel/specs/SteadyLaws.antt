@@ -1,25 +1,36 @@
 -- What each node of a derivation keeps, from a rule to its premises.
-use Rattle.std.specs.Prelude.{IsTrue, List, Some, ◌≡◌}
+use Rattle.std.specs.Prelude.{Bool, IsTrue, List, Some, not, ◌≡◌}
 use Rattle.std.specs.List.{All, list_all}
 use Rattle.cyp_goal.specs.Normal.{Renaming, normal}
+use Rattle.cyp_goal.specs.Raw.{goal_fits}
 use Rattle.cyp_heap.specs.Goals.{node_vars}
 use Rattle.cyp_heap.specs.PredsFormed.{IsFormedPreds}
+use Rattle.cyp_heap.specs.declared.goal.Link.{Link}
 use Rattle.cyp_heap.specs.declared.goal.Node.{Node}
 use Rattle.cyp_kernel.specs.Steady.{IsSteady}
 use Rattle.cyp_step.specs.Nodes.{IsNode, IsOver}
 use Rattle.cyp_step.specs.Step.{premises, raws}
 use Rattle.cyp_step.specs.declared.rule.Rule.{Rule}
-use Rattle.cyp_term.specs.Terms.{var_in}
+use Rattle.cyp_term.specs.Terms.{is_set_var, var_in}
 
--- a node that is as the rules ask, within limits and well linked, each of whose existentials stands in it
+-- the goals of the companions have the sorts of their places
+abbrev pub companions_sorted : Node → Bool
+companions_sorted n = list_all (λ (k : Link). goal_fits (λ v. not (is_set_var v)) is_set_var k.goal) n.links
+
+-- a node as a rule leaves it, before the normal form: it is as the rules ask, and so are its companions
+pub record IsSteadyRaw (n : Node) : Type 0 where
+  pub steady : IsSteady n
+  pub companions : IsTrue (companions_sorted n)
+
+-- a steady node within limits and well linked, each of whose existentials stands in it
 pub record IsSteadyNode (n : Node) : Type 0 where
   pub node : IsNode n
-  pub steady : IsSteady n
+  pub raw : IsSteadyRaw n
   pub exist_stand : IsTrue (list_all (λ v. var_in v (node_vars n)) n.goal.exist)
 
 -- what the rule leaves to do, before the normal form, is as the rules ask
 abbrev pub LeavesSteady : Rule → Type 0
-LeavesSteady r = (n : Node) (ms : List Node) → IsFormedPreds n.preds → IsSteadyNode n → raws n r ≡ Some ms → All (IsOver n.preds IsSteady) ms
+LeavesSteady r = (n : Node) (ms : List Node) → IsFormedPreds n.preds → IsSteadyNode n → raws n r ≡ Some ms → All (IsOver n.preds IsSteadyRaw) ms
 
 -- each existential of a normal form stands in it
 abbrev pub NormalExistStand : Type 0
