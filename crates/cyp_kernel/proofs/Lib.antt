@@ -45,6 +45,7 @@ pub mod RuleWrite
 pub mod SidesAgree
 pub mod SolveMeaning
 pub mod SolvedTruth
+pub mod SteadyCall
 pub mod SteadyFlat
 pub mod SteadyNodes
 pub mod SteadyParts

@@ -195,39 +195,46 @@ module _ (K : Var → Type 0) where
     pub extends : Extends by to
     pub covers : (v : Var) → Among v vs → Covers to v
 
+  pub bound_same : (by : Subst) → ImagesHave by → BoundOf by [] by
+  bound_same by h = record { has = h; extends = record { covers = λ u c. c }; covers = λ v i. absurd i }
+
+  pub bound_then : (by b to : Subst) (v : Var) (vs : List Var) → BoundOf by (v ∷ []) b → BoundOf b vs to → BoundOf by (v ∷ vs) to
+  bound_then by b to v vs q r = record { has = r.has; extends = record { covers = λ u c. r.extends.covers u (q.extends.covers u c) }; covers = each }
+    where
+      each : (u : Var) → Among u (v ∷ vs) → Covers to u
+      each u (inl e) = r.extends.covers u (q.covers u (inl e))
+      each u (inr i) = r.covers u i
+
+  covers_one : (b : Bool) (to : Subst) (v : Var) → is_set_var v ≡ b → HasImage b to v → (u : Var) → Among u (v ∷ []) → Covers to u
+  covers_one b to v e h u (inl p) = subst (Covers to) (sym p) (subst (λ (x : Bool). HasImage x to v) (sym e) h)
+  covers_one b to v e h u (inr m) = absurd m
+
+  pub bound_int : (by : Subst) (v : Var) (t : Term) → is_set_var v ≡ false → ImagesHave by → TermHas K t → BoundOf by (v ∷ []) (add_int by v t)
+  bound_int by v t e h k = record { has = add_int_has by v t h k; extends = int_more by v t; covers = covers_one false (add_int by v t) v e (int_image_last by.ints v t) }
+
+  pub bound_set : (by : Subst) (v : Var) (u : SetTerm) → is_set_var v ≡ true → ImagesHave by → SetHas K u → BoundOf by (v ∷ []) (add_set by v u)
+  bound_set by v u e h k = record { has = add_set_has by v u h k; extends = set_more by v u; covers = covers_one true (add_set by v u) v e (set_image_last by.sets v u) }
+
   bound_by_map_has : (m by : Subst) (v : Var) → ImagesHave m → ImagesHave by → IfSome (bound_by_map m by v) (BoundOf by (v ∷ []))
   bound_by_map_has m by v h k =
       by_test (is_set_var v)
       (λ e. rw (e, bound_by_map)
-      (by_test (is_some (set_image by.sets v)) (λ d. rw d (record { has = k; extends = record { covers = λ u c. c }; covers = one by e (some_is (set_image by.sets v) d) }))
-      (λ d. rw d
-      (IfSome-map (SetHas K) (BoundOf by (v ∷ [])) (add_set by v)
-      (λ u q. record { has = add_set_has by v u k q; extends = set_more by v u; covers = one (add_set by v u) e (set_image_last by.sets v u) })
-      (set_image m.sets v) (set_has m.sets v h.sets)))))
+      (by_test (is_some (set_image by.sets v)) (λ d. rw d (record { has = k; extends = record { covers = λ u c. c }; covers = covers_one true by v e (some_is (set_image by.sets v) d) }))
+      (λ d. rw d (IfSome-map (SetHas K) (BoundOf by (v ∷ [])) (add_set by v) (λ u q. bound_set by v u e k q) (set_image m.sets v) (set_has m.sets v h.sets)))))
       (λ e. rw (e, bound_by_map)
-      (by_test (is_some (int_image by.ints v)) (λ d. rw d (record { has = k; extends = record { covers = λ u c. c }; covers = one by e (some_is (int_image by.ints v) d) }))
-      (λ d. rw d
-      (IfSome-map (TermHas K) (BoundOf by (v ∷ [])) (add_int by v)
-      (λ t q. record { has = add_int_has by v t k q; extends = int_more by v t; covers = one (add_int by v t) e (int_image_last by.ints v t) })
-      (int_image m.ints v) (int_has m.ints v h.ints)))))
-    where
-      one : {b : Bool} (to : Subst) → is_set_var v ≡ b → HasImage b to v → (u : Var) → Among u (v ∷ []) → Covers to u
-      one {b} to e h u (inl p) = subst (Covers to) (sym p) (subst (λ (x : Bool). HasImage x to v) (sym e) h)
-      one {b} to e h u (inr m) = absurd m
+      (by_test (is_some (int_image by.ints v)) (λ d. rw d (record { has = k; extends = record { covers = λ u c. c }; covers = covers_one false by v e (some_is (int_image by.ints v) d) }))
+      (λ d. rw d (IfSome-map (TermHas K) (BoundOf by (v ∷ [])) (add_int by v) (λ t q. bound_int by v t e k q) (int_image m.ints v) (int_has m.ints v h.ints)))))
 
   all_bound_has : (m by : Subst) (vs : List Var) → ImagesHave m → ImagesHave by → IfSome (all_bound m by vs) (BoundOf by vs)
-  all_bound_has m by [] h k = record { has = k; extends = record { covers = λ u c. c }; covers = λ v i. absurd i }
+  all_bound_has m by [] h k = bound_same by k
   all_bound_has m by (v ∷ vs) h k = next (λ b q. all_bound_has m b vs h q) (bound_by_map m by v) (bound_by_map_has m by v h k)
     where
       last : (b : Subst) → BoundOf by (v ∷ []) b → (o : Option Subst) → IfSome o (BoundOf b vs) → IfSome o (BoundOf by (v ∷ vs))
       last b q None r = tt
-      last b q (Some to) r = record { has = r.has; extends = record { covers = λ u c. r.extends.covers u (q.extends.covers u c) }; covers = each b q to r }
-        where
-          each : (b : Subst) → BoundOf by (v ∷ []) b → (to : Subst) → BoundOf b vs to → (u : Var) → Among u (v ∷ vs) → Covers to u
-          each b q to r u (inl e) = r.extends.covers u (q.covers u (inl e))
-          each b q to r u (inr i) = r.covers u i
+      last b q (Some to) r = bound_then by b to v vs q r
 
-      next : ((b : Subst) → ImagesHave b → IfSome (all_bound m b vs) (BoundOf b vs)) → (o : Option Subst) → IfSome o (BoundOf by (v ∷ [])) → IfSome (option_and_then (λ (b : Subst). all_bound m b vs) o) (BoundOf by (v ∷ vs))
+      next : ((b : Subst) → ImagesHave b → IfSome (all_bound m b vs) (BoundOf b vs)) → (o : Option Subst) → IfSome o (BoundOf by (v ∷ []))
+          → IfSome (option_and_then (λ (b : Subst). all_bound m b vs) o) (BoundOf by (v ∷ vs))
       next more None q = tt
       next more (Some b) q = last b q (all_bound m b vs) (more b q.has)
 

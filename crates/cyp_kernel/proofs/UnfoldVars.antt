@@ -16,7 +16,7 @@ use Rattle.cyp_heap.specs.declared.chunk.Chunk.TheVariants.{Block, Cell, Inst}
 use Rattle.cyp_heap.specs.declared.chunk.InstOf.{InstOf}
 use Rattle.cyp_heap.specs.declared.pred.Clause.{Clause}
 use Rattle.cyp_kernel.proofs.AgreeVars.{chunk_sorted, is_number_var, lit_sorted}
-use Rattle.cyp_kernel.proofs.AppliedVars.{Brings, ChunkGoes, chunk_each, image_base, joined, lit_each}
+use Rattle.cyp_kernel.proofs.AppliedVars.{Brings, CardGoes, ChunkGoes, chunk_each, image_base, joined, lit_each}
 use Rattle.cyp_kernel.proofs.NewNumber.{int_var}
 use Rattle.cyp_kernel.proofs.UnfoldParams.{set_numbered}
 use Rattle.cyp_pred.specs.Unfold.{below_card, bind_ints, bind_sets, card_var, clause_subst, count_from, int_args, new_card, new_ints, new_sets, own_ints, own_sets, set_args, unfold_clause, with_tags}
@@ -41,6 +41,15 @@ use Rattle.cyp_term.specs.declared.term.Var.{Var}
 abbrev pub ChunkPlain : Chunk → Type 0
 ChunkPlain (Inst i) = is_none i.card ≡ true
 ChunkPlain _ = Unit {0}
+
+pub plain_goes : (by : Subst) (p q : Var → Bool) (K P : Var → Type 0) (brings : Brings by p q K P) (c : Chunk) → ChunkPlain c → ChunkGoes by p q K P brings c
+plain_goes by p q K P brings (Inst i) e = of_card i.card e
+  where
+    of_card : (o : Option Var) → is_none o ≡ true → CardGoes by p q K P brings o
+    of_card None e h k v m = absurd m
+    of_card (Some u) e h k v m = absurd (false≢true e)
+plain_goes by p q K P brings (Block b) e = tt
+plain_goes by p q K P brings (Cell b) e = tt
 
 -- ---- from the terms and set variables of a part to its places
 
@@ -316,15 +325,6 @@ module _ (K : Var → Type 0) (j : InstOf) (next : Next) (new : NewHave K next) 
     pub lit_has : (l : Lit) → lit_fits is_number_var is_set_var l ≡ true → lit_fits (is_below Int c.ints) (is_below Set c.sets) l ≡ true → LitHas K (apply_lit by l)
     lit_has l h k = (lit_fits-apply is_number_var is_set_var by fit l h, lit_each by (is_below Int c.ints) (is_below Set c.sets) Any K brings l k (λ v m. tt))
 
-    chunk_goes : (d : Chunk) → ChunkPlain d → ChunkGoes by (is_below Int c.ints) (is_below Set c.sets) Any K brings d
-    chunk_goes (Inst i) e = of_card i.card e
-      where
-        of_card : (o : Option Var) → is_none o ≡ true → ChunkGoes by (is_below Int c.ints) (is_below Set c.sets) Any K brings (Inst (record { pred = i.pred; args = i.args; card = o; tag = i.tag }))
-        of_card None e h k v m = absurd m
-        of_card (Some u) e h k v m = absurd (false≢true e)
-    chunk_goes (Block b) e = tt
-    chunk_goes (Cell b) e = tt
-
     pub chunk_has : (d : Chunk) → ChunkPlain d → chunk_fits is_number_var is_set_var d ≡ true → chunk_fits (is_below Int c.ints) (is_below Set c.sets) d ≡ true → ChunkHas K (apply_chunk by d)
     chunk_has d e h k =
-        (chunk_fits-apply is_number_var is_set_var by fit d h, chunk_each by (is_below Int c.ints) (is_below Set c.sets) Any K brings d (chunk_goes d e) k (λ v m. tt))
+        (chunk_fits-apply is_number_var is_set_var by fit d h, chunk_each by (is_below Int c.ints) (is_below Set c.sets) Any K brings d (plain_goes by (is_below Int c.ints) (is_below Set c.sets) Any K brings d e) k (λ v m. tt))
