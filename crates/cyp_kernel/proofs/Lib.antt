@@ -24,6 +24,7 @@ pub mod MatchVars
 pub mod NamedValues
 pub mod NewNumber
 pub mod NormalBody
+pub mod NormalEach
 pub mod NormalMeaning
 pub mod NormalReady
 pub mod NormalRules

@@ -1,4 +1,4 @@
--- What a rule leaves is as the rules ask where its instances fit and it is so beside them; so are the premises.
+-- What each rule leaves is as the rules ask, and so are the premises and the root.
 use Rattle.std.proofs.Common.{◌≡◌, ◌∷◌, ◌&&◌, ◌==◌, refl, sym, ap, Bool, true, List, [], IfSome, IsTrue, Option, Some, is_none, map, slice_get, subst}
 use Rattle.std.specs.List.{All, AllByRecursion, list_all}
 use Rattle.std.proofs.lemmas.Bool.{and_from, and_parts}
@@ -22,26 +22,28 @@ use Rattle.cyp_heap.specs.declared.pred.Clause.{Clause}
 use Rattle.cyp_heap.specs.declared.pred.Pred.{Pred}
 use Rattle.cyp_heap.specs.declared.pred.Preds.{Preds}
 use Rattle.cyp_kernel.proofs.Allowed.{mapped_some}
-use Rattle.cyp_kernel.proofs.NormalRules.{Split, split}
-use Rattle.cyp_kernel.proofs.NormalSteady.{normal_is_steady}
+use Rattle.cyp_kernel.proofs.NormalEach.{Split, split}
+use Rattle.cyp_kernel.proofs.NormalSteady.{formed_is_steady, normal_is_steady}
 use Rattle.cyp_kernel.proofs.NumberedVars.{normal_exist_stand}
+use Rattle.cyp_kernel.proofs.SteadyCall.{CompanionRight, call_steady}
+use Rattle.cyp_kernel.specs.Correct.{unlinked}
 use Rattle.cyp_kernel.proofs.SteadyFlat.{AreSettled, alloc_steady, frame_steady, free_steady, pick_steady, read_steady, write_steady}
-use Rattle.cyp_kernel.proofs.SteadyNodes.{ChunkClear, ChunkSorted, IsSettled, settled_node, steady_from}
+use Rattle.cyp_kernel.proofs.SteadyNodes.{ChunkClear, ChunkSorted, CompanionSorted, IsSettled, LinkClear, settled_node, steady_from}
 use Rattle.cyp_kernel.proofs.SteadyUnfold.{close_steady, open_steady}
 use Rattle.cyp_kernel.specs.Steady.{IsSteady}
-use Rattle.cyp_kernel.specs.SteadyLaws.{IsSteadyNode, IsSteadyRaw, LeavesSteady, PremisesSteady, companions_sorted}
+use Rattle.cyp_kernel.specs.SteadyLaws.{IsSteadyNode, IsSteadyRaw, LeavesSteady, PremisesSteady, RootIsSteady, companions_sorted}
 use Rattle.cyp_step.proofs.ChunkLists.{Every-slice_get}
 use Rattle.cyp_step.proofs.EachRule.{raws_left}
 use Rattle.cyp_step.proofs.Premises.{premises_are_nodes}
 use Rattle.cyp_step.proofs.RawNodes.{AreLeft, IsLeft, by_test}
-use Rattle.cyp_step.proofs.Root.{fits_over}
+use Rattle.cyp_step.proofs.Root.{fits_over, root_is_node}
 use Rattle.cyp_step.specs.Changes.{post_of, pre_of}
 use Rattle.cyp_step.specs.Nodes.{IsNode, IsOver, clause_fits, clauses_fit, pred_fits}
 use Rattle.cyp_step.specs.Shown.{shown}
 use Rattle.cyp_step.specs.Step.{all_normal, nodes_of, raws, renamed_premises}
 use Rattle.cyp_step.specs.declared.rule.Rule.{Rule}
-use Rattle.cyp_step.specs.declared.rule.Rule.TheVariants.{ByAlloc, ByClose, ByEmp, ByFrame, ByFree, ByInconsistent, ByOpen, ByPick, ByRead, ByWrite}
-use Rattle.cyp_term.proofs.Lists.{each_at, each_from}
+use Rattle.cyp_step.specs.declared.rule.Rule.TheVariants.{ByAlloc, ByCall, ByClose, ByEmp, ByFrame, ByFree, ByInconsistent, ByOpen, ByPick, ByRead, ByWrite}
+use Rattle.cyp_term.proofs.Lists.{Every-among, Every-from_among, each_at, each_from}
 use Rattle.cyp_term.specs.Entailment.{satisfiable}
 use Rattle.cyp_term.specs.Terms.{is_set_var}
 use Rattle.cyp_term.specs.declared.term.Var.{Var}
@@ -72,10 +74,37 @@ steady_each n f (m ∷ ms) a b = (
   steady_each n f ms a.1 b.1,
 )
 
-pub leaves_steady : (r : Rule) → ((n : Node) → IsFormedPreds n.preds → IsSteadyNode n → AreSettled (raws n r)) → LeavesSteady r
-leaves_steady r h n ms f w e =
+-- each companion of a steady node
+companions_right : (n : Node) → IsSteadyNode n → AllByRecursion (CompanionRight n) n.links
+companions_right n w =
+    Every-from_among (CompanionRight n) n.links (λ l i. record {
+      clear = Every-among (LinkClear n.goal.exist) l n.links (settled_node n w).links i;
+      sorted = Every-among CompanionSorted l n.links (settled_node n w).companions i;
+      fits = each_at (λ (k : Link). insts_fit n.preds k.goal) l n.links w.node.raw.linked.goals_fit i;
+    })
+
+raws_settled : (n : Node) → IsFormedPreds n.preds → IsSteadyNode n → (r : Rule) → AreSettled (raws n r)
+raws_settled n f w ByInconsistent = by_test (satisfiable (facts n.goal)) (λ e. rw (e, raws) tt) (λ e. rw (e, raws) tt)
+raws_settled n f w ByEmp =
+    by_test (length (pre_of n) == 0 && length (post_of n) == 0 && length n.goal.exist == 0)
+    (λ e. rw (e, raws) (by_test (shown n.goal n.goal.pure_post) (λ d. rw d tt) (λ d. rw d tt)))
+    (λ e. rw (e, raws) tt)
+raws_settled n f w (ByRead i) = read_steady n w i (slice_get (pre_of n) i) (Every-slice_get (ChunkClear n.goal.exist) (pre_of n) i (settled_node n w).pre)
+raws_settled n f w (ByFrame i) = frame_steady n w i
+raws_settled n f w (ByWrite i) =
+    write_steady n w i (focus n.goal) (slice_get (pre_of n) i) (Every-slice_get ChunkSorted (post_of n) 0 (settled_node n w).post)
+    (Every-slice_get (ChunkClear n.goal.exist) (pre_of n) i (settled_node n w).pre)
+raws_settled n f w (ByFree i) = free_steady n w i (slice_get (pre_of n) i)
+raws_settled n f w ByAlloc = alloc_steady n w (focus n.goal) (Every-slice_get ChunkSorted (post_of n) 0 (settled_node n w).post)
+raws_settled n f w (ByCall c) = call_steady n w c.pairs (slice_get n.links c.link) (Every-slice_get (CompanionRight n) n.links c.link (companions_right n w))
+raws_settled n f w (ByOpen i) = open_steady n f w i (slice_get (pre_of n) i) (Every-slice_get (ChunkClear n.goal.exist) (pre_of n) i (settled_node n w).pre)
+raws_settled n f w (ByClose c) = close_steady n f w c (focus n.goal) (Every-slice_get ChunkSorted (post_of n) 0 (settled_node n w).post)
+raws_settled n f w (ByPick v) = pick_steady n w v
+
+pub leaves_steady : LeavesSteady
+leaves_steady n r ms f w e =
     All-from_recursion (IsOver n.preds IsSteadyRaw) ms
-    (steady_each n f ms (subst (AreLeft n) e (raws_left n w.node r)) (subst AreSettled e (h n f w)))
+    (steady_each n f ms (subst (AreLeft n) e (raws_left n w.node r)) (subst AreSettled e (raws_settled n f w r)))
 
 -- ---- the premises
 
@@ -111,52 +140,25 @@ premises_each preds (m ∷ ms) rs h e k =
     subst (λ (xs : List Renaming). AllByRecursion (IsOver preds IsSteadyNode) (nodes_of xs)) (sym d.both)
     (record { same = nodes.0.same; fact = record { node = nodes.0.fact; raw = record { steady = steady; companions = normal_companions m d.first h.0.fact.companions d.first_is }; exist_stand = stand } }, premises_each preds ms d.others h.1 d.others_are nodes.1)
 
-pub premises_steady : (r : Rule) → LeavesSteady r → PremisesSteady r
-premises_steady r leaves n ms f w e =
+pub premises_steady : PremisesSteady
+premises_steady n r ms f w e =
     let a = mapped_some nodes_of (renamed_premises n r) ms e in
     let nodes = recursion_from_All (IsOver n.preds IsNode) ms (premises_are_nodes n r ms (formed_clauses_fit n.preds f) w.node e) in
     option_and_then_some all_normal (raws n r) a.0 a.1 (λ xs is d.
     All-from_recursion (IsOver n.preds IsSteadyNode) ms
     (subst (AllByRecursion (IsOver n.preds IsSteadyNode)) a.2
-    (premises_each n.preds xs a.0 (recursion_from_All (IsOver n.preds IsSteadyRaw) xs (leaves n xs f w is)) d (subst (AllByRecursion (IsOver n.preds IsNode)) (sym a.2) nodes))))
+    (premises_each n.preds xs a.0 (recursion_from_All (IsOver n.preds IsSteadyRaw) xs (leaves_steady n r xs f w is)) d (subst (AllByRecursion (IsOver n.preds IsNode)) (sym a.2) nodes))))
 
--- ---- the rules that unfold nothing
-
-pub inconsistent_leaves : LeavesSteady ByInconsistent
-inconsistent_leaves = leaves_steady ByInconsistent (λ n f w. by_test (satisfiable (facts n.goal)) (λ e. rw (e, raws) tt) (λ e. rw (e, raws) tt))
-
-pub emp_leaves : LeavesSteady ByEmp
-emp_leaves =
-    leaves_steady ByEmp (λ n f w.
-    by_test (length (pre_of n) == 0 && length (post_of n) == 0 && length n.goal.exist == 0)
-    (λ e. rw (e, raws) (by_test (shown n.goal n.goal.pure_post) (λ d. rw d tt) (λ d. rw d tt)))
-    (λ e. rw (e, raws) tt))
-
-pub read_leaves : (i : ℕ) → LeavesSteady (ByRead i)
-read_leaves i = leaves_steady (ByRead i) (λ n f w. read_steady n w i (slice_get (pre_of n) i) (Every-slice_get (ChunkClear n.goal.exist) (pre_of n) i (settled_node n w).pre))
-
-pub frame_leaves : (i : ℕ) → LeavesSteady (ByFrame i)
-frame_leaves i = leaves_steady (ByFrame i) (λ n f w. frame_steady n w i)
-
-pub write_leaves : (i : ℕ) → LeavesSteady (ByWrite i)
-write_leaves i =
-    leaves_steady (ByWrite i) (λ n f w.
-    write_steady n w i (focus n.goal) (slice_get (pre_of n) i) (Every-slice_get ChunkSorted (post_of n) 0 (settled_node n w).post)
-    (Every-slice_get (ChunkClear n.goal.exist) (pre_of n) i (settled_node n w).pre))
-
-pub free_leaves : (i : ℕ) → LeavesSteady (ByFree i)
-free_leaves i = leaves_steady (ByFree i) (λ n f w. free_steady n w i (slice_get (pre_of n) i))
-
-pub alloc_leaves : LeavesSteady ByAlloc
-alloc_leaves = leaves_steady ByAlloc (λ n f w. alloc_steady n w (focus n.goal) (Every-slice_get ChunkSorted (post_of n) 0 (settled_node n w).post))
-
-pub pick_leaves : (v : Var) → LeavesSteady (ByPick v)
-pick_leaves v = leaves_steady (ByPick v) (λ n f w. pick_steady n w v)
-
--- ---- the rules that unfold an instance
-
-pub close_leaves : (c : ℕ) → LeavesSteady (ByClose c)
-close_leaves c = leaves_steady (ByClose c) (λ n f w. close_steady n f w c (focus n.goal) (Every-slice_get ChunkSorted (post_of n) 0 (settled_node n w).post))
-
-pub open_leaves : (i : ℕ) → LeavesSteady (ByOpen i)
-open_leaves i = leaves_steady (ByOpen i) (λ n f w. open_steady n f w i (slice_get (pre_of n) i) (Every-slice_get (ChunkClear n.goal.exist) (pre_of n) i (settled_node n w).pre))
+pub root_is_steady : RootIsSteady
+root_is_steady preds g r f sorted e =
+    let m : Node = unlinked preds g in
+    let before : IsSteady m = formed_is_steady preds g f sorted in
+    let node : IsOver preds IsNode r.node = root_is_node preds g r before.fits e in
+    record {
+      same = node.same;
+      fact = record {
+        node = node.fact;
+        raw = record { steady = normal_is_steady m r before e; companions = normal_companions m r refl e };
+        exist_stand = normal_exist_stand m r before e;
+      };
+    }

@@ -17,4 +17,4 @@ pub use meaning::{
 };
 pub use normal_rules::rules_are_sound_in_normal_form;
 pub use rules::{flat_rules_are_sound, unfolding_rules_are_sound};
-pub use steady::{premises_are_steady, rules_leave_steady};
+pub use steady::{nodes_stay_steady, normal_existentials_stand, rules_leave_steady};
