@@ -47,6 +47,7 @@ pub mod SidesAgree
 pub mod SolveMeaning
 pub mod SolvedTruth
 pub mod SteadyCall
+pub mod SteadyExamples
 pub mod SteadyFlat
 pub mod SteadyNodes
 pub mod SteadyParts

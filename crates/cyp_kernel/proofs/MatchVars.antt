@@ -1,14 +1,12 @@
 -- A match binds each variable that it must, to parts of the node.
-use Rattle.std.proofs.Common.{◌≡◌, refl, sym, ap, ◌∙◌, ℕ, suc, Bool, true, false, cond, not, ◌&&◌, ◌||◌, ◌==◌, List, [], ◌∷◌, ◌++◌, IfSome, Option, Some, None, inl, inr, is_none, filter, flat_map, map, neg_ℤ, option_map, slice_get, subst}
-use Rattle.std.specs.Prelude.{is_some}
+use Rattle.std.proofs.Common.{◌≡◌, refl, sym, ap, ℕ, Bool, true, false, cond, not, ◌&&◌, ◌||◌, ◌==◌, List, [], ◌∷◌, ◌++◌, IfSome, Option, Some, None, inl, inr, flat_map, neg_ℤ, slice_get, subst}
 use Rattle.std.specs.List.{AllByRecursion, list_all, list_any}
 use Rattle.std.specs.Option.{option_and_then}
-use Rattle.std.proofs.lemmas.Bool.{and_from, and_parts, cond_both, false≢true}
+use Rattle.std.specs.Prelude.{is_some}
+use Rattle.std.proofs.lemmas.Bool.{and_parts, cond_both, false≢true}
 use Rattle.std.proofs.lemmas.Option.{none-some, option_and_then_some, same_Some}
 use Rattle.cyp_goal.proofs.EachVar.{Each, first, second}
-use Rattle.cyp_goal.proofs.Fits.{ImagesFit}
-use Rattle.cyp_goal.specs.Raw.{arg_fits, set_fits, term_fits}
-use Rattle.cyp_goal.specs.Solving.{wide_subst}
+use Rattle.cyp_goal.specs.Raw.{arg_fits, term_fits}
 use Rattle.cyp_heap.specs.Chunks.{arg_vars, card_vars}
 use Rattle.cyp_heap.specs.declared.chunk.Arg.{Arg}
 use Rattle.cyp_heap.specs.declared.chunk.Arg.TheVariants.{Int as IntArg, Set as SetArg}
@@ -23,8 +21,7 @@ use Rattle.cyp_step.proofs.ChunkLists.{Every-slice_get, IfSome-map}
 use Rattle.cyp_step.proofs.RawNodes.{by_option, by_test}
 use Rattle.cyp_term.proofs.Equality.{Decides-var_eq}
 use Rattle.cyp_term.proofs.Lists.{Among, Every-append}
-use Rattle.cyp_term.specs.Terms.{int_image, is_set_var, plus, set_image, set_vars, term_vars, var_eq, var_in, var_term, wide_lit, wide_term}
-use Rattle.cyp_term.specs.declared.lit.Lit.{Lit}
+use Rattle.cyp_term.specs.Terms.{int_image, is_set_var, plus, set_image, term_vars, var_eq, var_in}
 use Rattle.cyp_term.specs.declared.lit.SetTerm.{SetTerm}
 use Rattle.cyp_term.specs.declared.subst.IntBind.{IntBind}
 use Rattle.cyp_term.specs.declared.subst.SetBind.{SetBind}
@@ -34,7 +31,6 @@ use Rattle.cyp_term.specs.declared.term.Var.{Var}
 use Rattle.cyp_unify.specs.Frames.{alike}
 use Rattle.cyp_unify.specs.Matches.{Content, OfSet, Plain, Position, Walk, add_int, add_set, all_bound, arg_position, arg_positions, binds, bound_by_map, card_position, finish_match, lone_var, match_at, no_walk, pair_positions, positions, set_step, to_bind, waits, walk, walk_step}
 use Rattle.cyp_unify.specs.declared.found.Match.{Match}
-use Rattle.cyp_unify.specs.declared.found.Mend.{Mend}
 
 -- ---- images
 

@@ -1,5 +1,5 @@
 -- The normal forms of several nodes, one by one.
-use Rattle.std.proofs.Common.{◌≡◌, ◌∷◌, List, Option, Some, sym}
+use Rattle.std.proofs.Common.{◌≡◌, ◌∷◌, List, Some, sym}
 use Rattle.cyp_goal.specs.Normal.{Renaming, normal}
 use Rattle.cyp_heap.specs.Goals.{wide_node}
 use Rattle.cyp_heap.specs.declared.goal.Node.{Node}

@@ -1,28 +1,23 @@
 -- A rule is sound through the normal form where it is so before it.
-use Rattle.std.proofs.Common.{◌≡◌, ◌∷◌, ℕ, List, [], Option, Some, None, refl, sym, ap, Bool, true, false, map, option_map, subst}
-use Rattle.std.specs.List.{All, AllByRecursion}
-use Rattle.std.specs.Option.{option_and_then}
-use Rattle.std.proofs.lemmas.Bool.{false≢true}
-use Rattle.std.proofs.lemmas.List.Elements.{All-from_recursion, recursion_from_All}
-use Rattle.std.proofs.lemmas.Option.{none-some, option_and_then_some, same_Some}
-use Rattle.cyp_goal.specs.Normal.{Renaming, normal}
-use Rattle.cyp_heap.specs.Goals.{wide_node}
+use Rattle.std.proofs.Common.{◌≡◌, ◌∷◌, ℕ, List, [], Some, sym, subst}
+use Rattle.std.specs.List.{AllByRecursion}
+use Rattle.std.proofs.lemmas.List.Elements.{recursion_from_All}
+use Rattle.std.proofs.lemmas.Option.{option_and_then_some, same_Some}
+use Rattle.cyp_goal.specs.Normal.{Renaming}
 use Rattle.cyp_heap.specs.declared.goal.Node.{Node}
 use Rattle.cyp_heap.specs.declared.pred.Preds.{Preds}
-use Rattle.cyp_kernel.proofs.Allowed.{mapped_some, taken_false, taken_some}
-use Rattle.cyp_kernel.proofs.NormalEach.{Split, split}
-use Rattle.cyp_kernel.proofs.SteadyRules.{leaves_steady}
 use Rattle.cyp_kernel.proofs.NormalBody.{normal_bodies}
-use Rattle.cyp_kernel.proofs.NormalSteady.{normal_is_steady, steady_is_ready}
+use Rattle.cyp_kernel.proofs.NormalEach.{Split, split}
+use Rattle.cyp_kernel.proofs.NormalSteady.{steady_is_ready}
+use Rattle.cyp_kernel.proofs.SteadyRules.{leaves_steady}
 use Rattle.cyp_kernel.specs.Compile.{with_new_name}
 use Rattle.cyp_kernel.specs.Naming.{Names}
 use Rattle.cyp_kernel.specs.NormalRules.{AllMeetRenamed, NormalRuleLaw}
 use Rattle.cyp_kernel.specs.RuleLaws.{AllMeet, RuleLaw}
-use Rattle.cyp_kernel.specs.Steady.{IsSteady}
-use Rattle.cyp_kernel.specs.SteadyLaws.{IsSteadyRaw, LeavesSteady}
+use Rattle.cyp_kernel.specs.SteadyLaws.{IsSteadyRaw}
 use Rattle.cyp_prog.specs.Programs.{Body, Procedure}
 use Rattle.cyp_step.specs.Nodes.{IsOver}
-use Rattle.cyp_step.specs.Step.{all_normal, nodes_of, raws, renamed_premises}
+use Rattle.cyp_step.specs.Step.{all_normal, raws}
 use Rattle.cyp_step.specs.declared.rule.Rule.{Rule}
 
 -- bodies that meet the goals of the normal forms meet those of the nodes

@@ -7,7 +7,7 @@ use Rattle.cyp_goal.proofs.Fits.{set_parts}
 use Rattle.cyp_goal.proofs.Live.{among_in, in_among}
 use Rattle.cyp_goal.proofs.NormalKeeps.{HasSorts, Kept, prune_keeps, solve_keeps, tidy_keeps}
 use Rattle.cyp_goal.proofs.Renumber.{no_set}
-use Rattle.cyp_goal.specs.Normal.{Renaming, normal, tidy_node}
+use Rattle.cyp_goal.specs.Normal.{Renaming, tidy_node}
 use Rattle.cyp_goal.specs.Numbering.{new_name, numbering, renumber}
 use Rattle.cyp_goal.specs.Pruning.{prune}
 use Rattle.cyp_goal.specs.Raw.{arg_fits, chunk_fits, lit_fits, set_fits, term_fits}
@@ -18,15 +18,14 @@ use Rattle.cyp_heap.specs.declared.chunk.Arg.TheVariants.{Int as IntArg, Set as 
 use Rattle.cyp_heap.specs.declared.chunk.Chunk.{Chunk}
 use Rattle.cyp_heap.specs.declared.chunk.Chunk.TheVariants.{Block, Cell, Inst}
 use Rattle.cyp_heap.specs.declared.goal.Node.{Node}
-use Rattle.cyp_kernel.proofs.NormalMeaning.{Made, made, ready_sorts, used_left}
+use Rattle.cyp_kernel.proofs.NormalMeaning.{Made, made, ready_sorts}
 use Rattle.cyp_kernel.proofs.NormalSteady.{steady_is_ready}
 use Rattle.cyp_kernel.proofs.NumberMeaning.{int_new, set_new}
-use Rattle.cyp_kernel.specs.Steady.{IsSteady}
 use Rattle.cyp_kernel.specs.SteadyLaws.{NormalExistStand}
 use Rattle.cyp_term.proofs.Equality.{Decides-term_eq, Decides-var_eq}
 use Rattle.cyp_term.proofs.Lists.{Among, Among-cases, Among-left, Among-map, Among-right, each_at, each_from, filter_out, flat_in, flat_out, map_from}
 use Rattle.cyp_term.proofs.Repeats.{without_repeats_in}
-use Rattle.cyp_term.specs.Terms.{apply_lit, apply_set, apply_term, base_vars, image_or_self, int_image, is_set_var, lit_vars, lits_vars, set_image, set_var, set_vars, term_at, term_base, term_eq, term_vars, var_at, var_eq, var_in, var_term}
+use Rattle.cyp_term.specs.Terms.{apply_lit, apply_set, apply_term, base_vars, image_or_self, is_set_var, lit_vars, lits_vars, set_image, set_vars, term_at, term_base, term_eq, term_vars, var_at, var_eq, var_in}
 use Rattle.cyp_term.specs.declared.lit.Lit.{Lit}
 use Rattle.cyp_term.specs.declared.lit.Lit.TheVariants.{Eq, Le, Lt, Member, Ne, NotMember, NotSame, NotSub, Same, Sub}
 use Rattle.cyp_term.specs.declared.lit.SetTerm.{SetTerm}

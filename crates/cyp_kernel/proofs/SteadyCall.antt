@@ -1,5 +1,5 @@
 -- Call leaves what the rules ask.
-use Rattle.std.proofs.Common.{◌≡◌, refl, sym, ap, ℕ, zero, suc, ◌≤◌, arith, Bool, true, false, not, ◌&&◌, ◌==◌, List, [], ◌∷◌, ◌++◌, IfSome, IsTrue, Option, Some, None, filter, flat_map, map, subst}
+use Rattle.std.proofs.Common.{◌≡◌, refl, sym, ap, ℕ, suc, ◌≤◌, arith, Bool, true, false, not, ◌&&◌, ◌==◌, List, [], ◌∷◌, ◌++◌, IfSome, IsTrue, Option, Some, None, filter, flat_map, map, subst}
 use Rattle.std.specs.List.{AllByRecursion, list_all, list_any}
 use Rattle.std.proofs.lemmas.Bool.{and_from, and_parts, cond_both, false≢true}
 use Rattle.cyp_goal.proofs.EachVar.{Each, first, second}
@@ -21,7 +21,7 @@ use Rattle.cyp_kernel.proofs.AppliedVars.{Brings, chunk_each, image_base, joined
 use Rattle.cyp_kernel.proofs.MatchVars.{BoundOf, Covers, HasImage, ImagesHave, bound_int, bound_same, bound_set, bound_then, int_has, match_has, set_has}
 use Rattle.cyp_kernel.proofs.NewNumber.{int_var}
 use Rattle.cyp_kernel.proofs.SteadyFlat.{AreSettled, lits_and, one, same_program}
-use Rattle.cyp_kernel.proofs.SteadyNodes.{ChunkClear, Clear, CompanionSorted, IsSettled, LinkClear, LitClear, each_both, fresh_clear, new_clear, settled_node}
+use Rattle.cyp_kernel.proofs.SteadyNodes.{ChunkClear, Clear, CompanionSorted, IsSettled, LinkClear, each_both, fresh_clear, new_clear, settled_node}
 use Rattle.cyp_kernel.proofs.SteadyUnfold.{each_weaker}
 use Rattle.cyp_kernel.proofs.UnfoldParams.{set_numbered}
 use Rattle.cyp_kernel.proofs.UnfoldVars.{ChunkHas, ChunkPlain, LitHas, NewHave, SetHas, TermHas, one_var, plain_goes, self, up}

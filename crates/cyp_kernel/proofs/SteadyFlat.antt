@@ -1,10 +1,10 @@
 -- The rules that unfold nothing leave what the rules ask.
-use Rattle.std.proofs.Common.{◌≡◌, refl, sym, ap, ℕ, zero, suc, ◌<◌, ◌≤◌, arith, Bool, true, false, not, ◌&&◌, ◌==◌, List, [], ◌∷◌, ◌++◌, IfSome, Option, Some, None, inl, inr, length, map, slice_get, subst, ◌||◌, ◌∙◌}
+use Rattle.std.proofs.Common.{◌≡◌, refl, sym, ap, ℕ, zero, suc, ◌<◌, ◌≤◌, arith, true, false, not, ◌&&◌, ◌==◌, List, [], ◌∷◌, ◌++◌, IfSome, Option, Some, None, inl, inr, length, map, subst, ◌||◌, ◌∙◌}
 use Rattle.std.specs.List.{AllByRecursion, list_all}
 use Rattle.std.proofs.lemmas.Bool.{and_from, and_parts, cond_both, false_from_ne_true, not-true, or_from}
 use Rattle.std.proofs.lemmas.List.Folds.{list_any-append}
 use Rattle.cyp_goal.proofs.EachVar.{Each, first, second}
-use Rattle.cyp_goal.proofs.Live.{among_in, in_among}
+use Rattle.cyp_goal.proofs.Live.{in_among}
 use Rattle.cyp_goal.specs.Raw.{arg_fits, set_fits, term_fits}
 use Rattle.cyp_heap.specs.Chunks.{insts, put, without}
 use Rattle.cyp_heap.specs.Formed.{all_differ}
@@ -28,11 +28,10 @@ use Rattle.cyp_step.specs.Changes.{Raws, add_pre, new_int, next_of, post_of, pre
 use Rattle.cyp_step.specs.FlatRules.{block_cells, equal_vars, first_exist, first_place, has_exist, is_bare_open, is_cell_at, is_place, is_universal, is_written_at, new_cells, occurs_elsewhere, pair_at, raw_alloc, raw_frame, raw_free, raw_pick, raw_read, raw_write, without_cells}
 use Rattle.cyp_step.specs.Shown.{is_open, is_program_base, is_program_expr, shown}
 use Rattle.cyp_term.proofs.Equality.{Decides-sort_eq}
-use Rattle.cyp_term.proofs.Lists.{Among, Among-cases, Every-append, each_at, each_from}
+use Rattle.cyp_term.proofs.Lists.{Among, Every-append}
 use Rattle.cyp_term.specs.Terms.{base_vars, is_set_var, sort_eq, term_vars, var_eq, var_in, var_term}
 use Rattle.cyp_term.specs.declared.lit.Lit.{Lit}
 use Rattle.cyp_term.specs.declared.lit.Lit.TheVariants.{Eq, Same}
-use Rattle.cyp_term.specs.declared.lit.SetTerm.{SetTerm}
 use Rattle.cyp_term.specs.declared.term.Sort.{Sort}
 use Rattle.cyp_term.specs.declared.term.Sort.TheVariants.{Int, Set}
 use Rattle.cyp_term.specs.declared.term.Term.{Term}

@@ -1,5 +1,5 @@
 -- What the rules ask of a node as facts of each literal, chunk and companion, so that they pass through plain changes.
-use Rattle.std.proofs.Common.{◌≡◌, refl, ap, ℕ, ◌<◌, ◌≤◌, arith, flat_map, Bool, true, false, not, ◌&&◌, List, [], ◌∷◌, ◌++◌, IsTrue, Some, slice_get, inl, subst, ⊎_elim}
+use Rattle.std.proofs.Common.{◌≡◌, ap, ℕ, ◌<◌, ◌≤◌, arith, flat_map, Bool, true, false, not, List, ◌++◌, IsTrue, ⊎_elim}
 use Rattle.std.specs.List.{AllByRecursion, list_all}
 use Rattle.std.proofs.lemmas.Bool.{and_from, and_parts, both_ways, cases_Bool, false_from_ne_true, not-true}
 use Rattle.cyp_goal.proofs.EachVar.{Each}
@@ -20,7 +20,7 @@ use Rattle.cyp_kernel.proofs.SteadyParts.{slice_get-among, sorted_goal}
 use Rattle.cyp_kernel.specs.Steady.{IsSteady}
 use Rattle.cyp_kernel.specs.SteadyLaws.{IsSteadyNode, IsSteadyRaw}
 use Rattle.cyp_step.specs.Changes.{next_of}
-use Rattle.cyp_term.proofs.Lists.{Among, Among-left, Among-right, Every-among, Every-from_among, each_at, each_from, flat_in, flat_out}
+use Rattle.cyp_term.proofs.Lists.{Among-left, Among-right, Every-among, Every-from_among, each_at, each_from, flat_in, flat_out}
 use Rattle.cyp_term.specs.Terms.{is_set_var, lit_vars, lits_vars, sort_eq, var_in}
 use Rattle.cyp_term.specs.declared.lit.Lit.{Lit}
 use Rattle.cyp_term.specs.declared.term.Sort.TheVariants.{Int}
@@ -115,9 +115,10 @@ settled n raw =
       pure_post = each_true lit_sorted n.goal.pure_post sorted.pure_post;
       post = each_true chunk_sorted n.goal.post.chunks sorted.post;
       links = Every-from_among (LinkClear exist) n.links (λ k i.
-          let at = among_at k n.links i in
-          (each_at (link_fits is_number_var is_set_var) k n.links (and_parts _ (list_all (link_fits is_number_var is_set_var) n.links) s.sorted).1 i,
-          λ v j. s.exist_images k at.0 v at.1 (among_in v (image_vars k.map) j)));
+          let at = among_at k n.links i in (
+            each_at (link_fits is_number_var is_set_var) k n.links (and_parts _ (list_all (link_fits is_number_var is_set_var) n.links) s.sorted).1 i,
+            λ v j. s.exist_images k at.0 v at.1 (among_in v (image_vars k.map) j),
+          ));
       companions = each_true (λ (k : Link). goal_fits is_number_var is_set_var k.goal) n.links raw.companions;
     }
 
@@ -129,9 +130,9 @@ steady_from n fits s =
     let chunks = chunks_vars n.goal.pre.chunks in
     let steady : IsSteady n = record {
       sorted = and_from _ _ (and_from _ _ (and_from _ _ (and_from _ _
-      (both_tests lit_sorted lit_vars C n.goal.pure_pre s.pure_pre) (both_tests chunk_sorted chunk_vars C n.goal.pre.chunks s.pre))
-      (tests_true lit_sorted n.goal.pure_post s.pure_post)) (tests_true chunk_sorted n.goal.post.chunks s.post))
-      (both_tests (link_fits is_number_var is_set_var) (λ (k : Link). image_vars k.map) C n.links s.links);
+          (both_tests lit_sorted lit_vars C n.goal.pure_pre s.pure_pre) (both_tests chunk_sorted chunk_vars C n.goal.pre.chunks s.pre))
+          (tests_true lit_sorted n.goal.pure_post s.pure_post)) (tests_true chunk_sorted n.goal.post.chunks s.post))
+          (both_tests (link_fits is_number_var is_set_var) (λ (k : Link). image_vars k.map) C n.links s.links);
       fits = fits;
       program_int = s.program_int;
       program_differs = s.program_differs;

@@ -1,35 +1,34 @@
 -- What each rule leaves is as the rules ask, and so are the premises and the root.
-use Rattle.std.proofs.Common.{◌≡◌, ◌∷◌, ◌&&◌, ◌==◌, refl, sym, ap, Bool, true, List, [], IfSome, IsTrue, Option, Some, is_none, map, slice_get, subst}
-use Rattle.std.specs.List.{All, AllByRecursion, list_all}
+use Rattle.std.proofs.Common.{◌≡◌, ◌∷◌, ◌&&◌, ◌==◌, refl, sym, true, List, [], IfSome, Option, Some, is_none, length, map, slice_get, subst}
+use Rattle.std.specs.List.{AllByRecursion, list_all}
 use Rattle.std.proofs.lemmas.Bool.{and_from, and_parts}
 use Rattle.std.proofs.lemmas.List.Elements.{All-from_recursion, recursion_from_All}
 use Rattle.std.proofs.lemmas.Option.{option_and_then_some, same_Some}
-use Rattle.cyp_goal.proofs.LinksFit.{sides_fit}
 use Rattle.cyp_goal.proofs.LinksNormal.{IsKept, IsKeptWithin, normal_kept}
 use Rattle.cyp_goal.specs.Facts.{facts}
-use Rattle.cyp_goal.specs.Raw.{goal_fits}
-use Rattle.cyp_kernel.proofs.AgreeVars.{is_number_var}
 use Rattle.cyp_goal.specs.Normal.{Renaming, normal}
+use Rattle.cyp_goal.specs.Raw.{goal_fits}
 use Rattle.cyp_heap.specs.Chunks.{insts}
 use Rattle.cyp_heap.specs.Formed.{inst_fits, insts_fit}
+use Rattle.cyp_heap.specs.Goals.{apply_link}
 use Rattle.cyp_heap.specs.PredsFormed.{IsFormedPreds, insts_plain}
 use Rattle.cyp_heap.specs.declared.chunk.InstOf.{InstOf}
-use Rattle.cyp_heap.specs.Goals.{apply_link}
 use Rattle.cyp_heap.specs.declared.goal.Goal.{Goal}
 use Rattle.cyp_heap.specs.declared.goal.Link.{Link}
 use Rattle.cyp_heap.specs.declared.goal.Node.{Node}
 use Rattle.cyp_heap.specs.declared.pred.Clause.{Clause}
 use Rattle.cyp_heap.specs.declared.pred.Pred.{Pred}
 use Rattle.cyp_heap.specs.declared.pred.Preds.{Preds}
+use Rattle.cyp_kernel.proofs.AgreeVars.{is_number_var}
 use Rattle.cyp_kernel.proofs.Allowed.{mapped_some}
 use Rattle.cyp_kernel.proofs.NormalEach.{Split, split}
 use Rattle.cyp_kernel.proofs.NormalSteady.{formed_is_steady, normal_is_steady}
 use Rattle.cyp_kernel.proofs.NumberedVars.{normal_exist_stand}
 use Rattle.cyp_kernel.proofs.SteadyCall.{CompanionRight, call_steady}
-use Rattle.cyp_kernel.specs.Correct.{unlinked}
 use Rattle.cyp_kernel.proofs.SteadyFlat.{AreSettled, alloc_steady, frame_steady, free_steady, pick_steady, read_steady, write_steady}
 use Rattle.cyp_kernel.proofs.SteadyNodes.{ChunkClear, ChunkSorted, CompanionSorted, IsSettled, LinkClear, settled_node, steady_from}
 use Rattle.cyp_kernel.proofs.SteadyUnfold.{close_steady, open_steady}
+use Rattle.cyp_kernel.specs.Correct.{unlinked}
 use Rattle.cyp_kernel.specs.Steady.{IsSteady}
 use Rattle.cyp_kernel.specs.SteadyLaws.{IsSteadyNode, IsSteadyRaw, LeavesSteady, PremisesSteady, RootIsSteady, companions_sorted}
 use Rattle.cyp_step.proofs.ChunkLists.{Every-slice_get}
@@ -46,9 +45,7 @@ use Rattle.cyp_step.specs.declared.rule.Rule.TheVariants.{ByAlloc, ByCall, ByClo
 use Rattle.cyp_term.proofs.Lists.{Every-among, Every-from_among, each_at, each_from}
 use Rattle.cyp_term.specs.Entailment.{satisfiable}
 use Rattle.cyp_term.specs.Terms.{is_set_var}
-use Rattle.cyp_term.specs.declared.term.Var.{Var}
 use Rattle.cyp_unify.specs.Frames.{focus}
-use Rattle.std.proofs.Common.{length, ℕ}
 
 -- the instances in the clauses of formed predicates fit
 pub formed_clauses_fit : (preds : Preds) → IsFormedPreds preds → clauses_fit preds ≡ true

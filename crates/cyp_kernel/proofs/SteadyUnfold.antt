@@ -1,12 +1,12 @@
 -- Open and Close leave what the rules ask.
-use Rattle.std.proofs.Common.{◌≡◌, refl, sym, ap, ◌∙◌, ℕ, zero, suc, ◌-◌, ◌≤◌, arith, Bool, true, false, not, ◌&&◌, List, [], ◌∷◌, ◌++◌, IfSome, Option, Some, None, inl, inr, filter, flat_map, length, map, nat_lt, slice_get, subst}
+use Rattle.std.proofs.Common.{◌≡◌, refl, sym, ap, ◌∙◌, ℕ, zero, suc, ◌-◌, ◌≤◌, arith, true, false, not, ◌&&◌, List, [], ◌∷◌, ◌++◌, IfSome, Option, Some, None, inl, inr, filter, flat_map, length, map, nat_lt, slice_get, subst}
 use Rattle.std.specs.List.{AllByRecursion, list_all}
 use Rattle.std.proofs.lemmas.Bool.{and_from, and_parts, false_from_ne_true, not-true, or_from}
 use Rattle.std.proofs.lemmas.List.Folds.{list_any-append}
 use Rattle.cyp_goal.proofs.EachVar.{Each, EachPart, first, link_vars, second}
 use Rattle.cyp_goal.proofs.Live.{in_among}
 use Rattle.cyp_goal.specs.Raw.{arg_fits, goal_fits, images_fit, link_fits, set_fits, term_fits}
-use Rattle.cyp_heap.specs.Chunks.{arg_vars, card_vars, chunk_vars, insts, put_all, without}
+use Rattle.cyp_heap.specs.Chunks.{arg_vars, card_vars, chunk_vars, put_all, without}
 use Rattle.cyp_heap.specs.Formed.{all_differ}
 use Rattle.cyp_heap.specs.Goals.{image_vars, node_vars}
 use Rattle.cyp_heap.specs.PredsFormed.{IsFormedPreds}
@@ -205,9 +205,11 @@ module _ (n : Node) (formed : IsFormedPreds n.preds) (w : IsSteadyNode n) where
   link_clear i j h =
       let cards : List Term = cards_of (without (pre_of n) i) in
       let sorted = Every-append TermSorted (last_tuple n.links ++ card_terms j.card) cards (Every-append TermSorted (last_tuple n.links) (card_terms j.card) (last_sorted n.links s.links) (card_sorted j.card h))
-      (cards_sorted (without (pre_of n) i) (Every-without (ChunkClear exist) (pre_of n) i s.pre)) in
-      (and_from (list_all (term_fits is_number_var) (last_tuple n.links ++ card_terms j.card ++ cards)) (images_fit is_number_var is_set_var (identity_map n))
-      (tests_true (term_fits is_number_var) (last_tuple n.links ++ card_terms j.card ++ cards) sorted) map_sorted, map_clear)
+      (cards_sorted (without (pre_of n) i) (Every-without (ChunkClear exist) (pre_of n) i s.pre)) in (
+        and_from (list_all (term_fits is_number_var) (last_tuple n.links ++ card_terms j.card ++ cards)) (images_fit is_number_var is_set_var (identity_map n))
+            (tests_true (term_fits is_number_var) (last_tuple n.links ++ card_terms j.card ++ cards) sorted) map_sorted,
+        map_clear,
+      )
 
   pub open_steady : (i : ℕ) (o : Option Chunk) → IfSome o (ChunkClear exist) → AreSettled (raw_open n i o)
   open_steady i (Some (Inst j)) h =

@@ -1,8 +1,8 @@
 -- The entries of an unfolding have the sorts of their places, and a fact of arguments and new variables holds of their variables.
-use Rattle.std.proofs.Common.{◌≡◌, refl, sym, ap, ℕ, zero, suc, ◌≤◌, arith, Bool, true, ◌&&◌, ◌==◌, List, [], ◌∷◌, ◌++◌, is_none, length, map, flat_map, Option, Some, None, inl, inr, slice_get, subst}
+use Rattle.std.proofs.Common.{◌≡◌, refl, sym, ℕ, zero, suc, ◌≤◌, true, ◌&&◌, ◌==◌, List, [], ◌∷◌, is_none, length, map, flat_map, Option, Some, None, slice_get, subst}
 use Rattle.std.specs.List.{AllByRecursion, list_all}
 use Rattle.std.proofs.lemmas.Bool.{and_from, and_parts}
-use Rattle.cyp_goal.proofs.EachVar.{Each, first, second}
+use Rattle.cyp_goal.proofs.EachVar.{Each, first}
 use Rattle.cyp_goal.specs.Raw.{arg_fits}
 use Rattle.cyp_heap.specs.Chunks.{apply_chunk, arg_vars, card_vars, insts}
 use Rattle.cyp_heap.specs.Formed.{inst_fits}

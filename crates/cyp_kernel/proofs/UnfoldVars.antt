@@ -1,5 +1,5 @@
 -- The variables of an unfolding are those of the arguments and new ones, each of the sort of its place.
-use Rattle.std.proofs.Common.{◌≡◌, refl, sym, ap, ◌∙◌, ℕ, zero, suc, ◌+◌, ◌-◌, ◌<◌, ◌≤◌, arith, Bool, true, false, cond, not, ◌&&◌, ◌==◌, List, [], ◌∷◌, ◌++◌, is_none, length, map, flat_map, nat_lt, Option, Some, None, inl, inr, slice_get, subst, ltb-true}
+use Rattle.std.proofs.Common.{◌≡◌, refl, sym, ap, ◌∙◌, ℕ, zero, suc, ◌+◌, ◌-◌, ◌<◌, ◌≤◌, arith, Bool, true, false, cond, not, ◌&&◌, List, [], ◌∷◌, ◌++◌, is_none, length, map, flat_map, nat_lt, Option, Some, None, inl, inr, subst, ltb-true}
 use Rattle.std.specs.List.{AllByRecursion, list_all}
 use Rattle.std.proofs.lemmas.Bool.{and_from, and_parts, cond_both, false≢true}
 use Rattle.std.proofs.lemmas.List.{length-append}
@@ -7,7 +7,7 @@ use Rattle.std.proofs.lemmas.Option.{none-some, same_Some}
 use Rattle.cyp_goal.proofs.EachVar.{Each}
 use Rattle.cyp_goal.proofs.Fits.{ImagesFit, chunk_fits-apply, lit_fits-apply}
 use Rattle.cyp_goal.specs.Raw.{arg_fits, chunk_fits, lit_fits, set_fits, term_fits}
-use Rattle.cyp_heap.specs.Chunks.{apply_chunk, arg_vars, card_vars, chunk_vars, insts}
+use Rattle.cyp_heap.specs.Chunks.{apply_chunk, arg_vars, card_vars, chunk_vars}
 use Rattle.cyp_heap.specs.PredsFormed.{arg_set_vars, arg_terms, chunk_set_vars, chunk_terms, clause_set_vars, clause_terms, is_below, is_closed, lit_terms}
 use Rattle.cyp_heap.specs.declared.chunk.Arg.{Arg}
 use Rattle.cyp_heap.specs.declared.chunk.Arg.TheVariants.{Int as IntArg, Set as SetArg}
@@ -16,22 +16,19 @@ use Rattle.cyp_heap.specs.declared.chunk.Chunk.TheVariants.{Block, Cell, Inst}
 use Rattle.cyp_heap.specs.declared.chunk.InstOf.{InstOf}
 use Rattle.cyp_heap.specs.declared.pred.Clause.{Clause}
 use Rattle.cyp_kernel.proofs.AgreeVars.{chunk_sorted, is_number_var, lit_sorted}
-use Rattle.cyp_kernel.proofs.AppliedVars.{Brings, CardGoes, ChunkGoes, chunk_each, image_base, joined, lit_each}
+use Rattle.cyp_kernel.proofs.AppliedVars.{Brings, CardGoes, ChunkGoes, chunk_each, image_base, lit_each}
 use Rattle.cyp_kernel.proofs.NewNumber.{int_var}
 use Rattle.cyp_kernel.proofs.UnfoldParams.{set_numbered}
-use Rattle.cyp_pred.specs.Unfold.{below_card, bind_ints, bind_sets, card_var, clause_subst, count_from, int_args, new_card, new_ints, new_sets, own_ints, own_sets, set_args, unfold_clause, with_tags}
+use Rattle.cyp_pred.specs.Unfold.{bind_ints, bind_sets, card_var, clause_subst, int_args, new_ints, new_sets, own_ints, own_sets, set_args}
 use Rattle.cyp_pred.specs.declared.unfolded.Next.{Next}
 use Rattle.cyp_pred.specs.declared.unfolded.Unfolded.{Unfolded}
-use Rattle.cyp_step.proofs.ChunkLists.{Every-map}
 use Rattle.cyp_term.proofs.Equality.{Decides-sort_eq, Decides-var_eq}
-use Rattle.cyp_term.proofs.Lists.{Among, Among-left, Among-right, Every-append, Every-among, Every-from_among, each_at, each_from, flat_in, map_from}
+use Rattle.cyp_term.proofs.Lists.{Among, Among-left, Among-right, Every-append, Every-among, each_at, each_from, flat_in}
 use Rattle.cyp_term.specs.Regions.{lit_set_vars}
-use Rattle.cyp_term.specs.Terms.{apply_lit, image_or_self, int_image, is_set_var, lit_elements, lit_vars, set_image, set_var, set_vars, sort_eq, term_vars, var_eq, var_term}
+use Rattle.cyp_term.specs.Terms.{apply_lit, image_or_self, int_image, is_set_var, lit_vars, set_image, set_var, set_vars, sort_eq, term_vars, var_eq, var_term}
 use Rattle.cyp_term.specs.declared.lit.Lit.{Lit}
 use Rattle.cyp_term.specs.declared.lit.Lit.TheVariants.{Eq, Le, Lt, Member, Ne, NotMember, NotSame, NotSub, Same, Sub}
 use Rattle.cyp_term.specs.declared.lit.SetTerm.{SetTerm}
-use Rattle.cyp_term.specs.declared.subst.IntBind.{IntBind}
-use Rattle.cyp_term.specs.declared.subst.SetBind.{SetBind}
 use Rattle.cyp_term.specs.declared.subst.Subst.{Subst}
 use Rattle.cyp_term.specs.declared.term.Sort.TheVariants.{Int, Set}
 use Rattle.cyp_term.specs.declared.term.Term.{Term}
