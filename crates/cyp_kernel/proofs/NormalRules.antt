@@ -12,7 +12,7 @@ use Rattle.cyp_kernel.proofs.NormalSteady.{steady_is_ready}
 use Rattle.cyp_kernel.proofs.SteadyRules.{leaves_steady}
 use Rattle.cyp_kernel.specs.Compile.{with_new_name}
 use Rattle.cyp_kernel.specs.Naming.{Names}
-use Rattle.cyp_kernel.specs.NormalRules.{AllMeetRenamed, NormalRuleLaw}
+use Rattle.cyp_kernel.specs.NormalRules.{AllMeetRenamed, NodeRuleLaw, NormalRuleLaw}
 use Rattle.cyp_kernel.specs.RuleLaws.{AllMeet, RuleLaw}
 use Rattle.cyp_kernel.specs.SteadyLaws.{IsSteadyRaw}
 use Rattle.cyp_prog.specs.Programs.{Body, Procedure}
@@ -35,8 +35,15 @@ meet_before ps names k preds (m ∷ ms) rs (b ∷ bs) s e h =
       meet_before ps names k preds ms d.others bs s.1 d.others_are both.1,
     )
 
-pub through_normal : (rule : Rule) → RuleLaw rule → NormalRuleLaw rule
-through_normal rule law ps n rs bs names procs next k formed w naming is callee all =
+-- a node of a derivation is as the rules ask
+pub at_nodes : (rule : Rule) → RuleLaw rule → NodeRuleLaw rule
+at_nodes rule law ps n ms bs names procs next k formed w naming e callee all = law ps n ms bs names procs next k w.raw.steady formed naming e callee all
+
+pub through_node : (rule : Rule) → NodeRuleLaw rule → NormalRuleLaw rule
+through_node rule law ps n rs bs names procs next k formed w naming is callee all =
     option_and_then_some all_normal (raws n rule) rs is (λ ms e d.
-    law ps n ms bs names procs next k w.raw.steady formed naming e callee
+    law ps n ms bs names procs next k formed w naming e callee
     (meet_before ps (with_new_name n rule next names) k n.preds ms rs bs (recursion_from_All (IsOver n.preds IsSteadyRaw) ms (leaves_steady n rule ms formed w e)) d all))
+
+pub through_normal : (rule : Rule) → RuleLaw rule → NormalRuleLaw rule
+through_normal rule law = through_node rule (at_nodes rule law)

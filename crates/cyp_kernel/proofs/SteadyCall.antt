@@ -6,7 +6,7 @@ use Rattle.cyp_goal.proofs.EachVar.{Each, first, second}
 use Rattle.cyp_goal.proofs.Fits.{ImagesFit, chunk_fits-apply, lits_fit-apply}
 use Rattle.cyp_goal.proofs.LinksFit.{FitsPost, sides_fit}
 use Rattle.cyp_goal.proofs.Live.{in_among}
-use Rattle.cyp_goal.specs.Raw.{arg_fits, images_fit, set_fits, term_fits}
+use Rattle.cyp_goal.specs.Raw.{arg_fits, goal_fits, images_fit, set_fits, term_fits}
 use Rattle.cyp_heap.specs.Chunks.{apply_chunk, arg_vars, card_vars, chunk_vars, chunks_vars, insts}
 use Rattle.cyp_heap.specs.Formed.{insts_fit}
 use Rattle.cyp_heap.specs.Goals.{goal_vars}
@@ -21,7 +21,7 @@ use Rattle.cyp_kernel.proofs.AppliedVars.{Brings, chunk_each, image_base, joined
 use Rattle.cyp_kernel.proofs.MatchVars.{BoundOf, Covers, HasImage, ImagesHave, bound_int, bound_same, bound_set, bound_then, int_has, match_has, set_has}
 use Rattle.cyp_kernel.proofs.NewNumber.{int_var}
 use Rattle.cyp_kernel.proofs.SteadyFlat.{AreSettled, lits_and, one, same_program}
-use Rattle.cyp_kernel.proofs.SteadyNodes.{ChunkClear, Clear, CompanionSorted, IsSettled, LinkClear, each_both, fresh_clear, new_clear, settled_node}
+use Rattle.cyp_kernel.proofs.SteadyNodes.{ChunkClear, Clear, CompanionSteady, IsSettled, LinkClear, each_both, fresh_clear, new_clear, settled_node}
 use Rattle.cyp_kernel.proofs.SteadyUnfold.{each_weaker}
 use Rattle.cyp_kernel.proofs.UnfoldParams.{set_numbered}
 use Rattle.cyp_kernel.proofs.UnfoldVars.{ChunkHas, ChunkPlain, LitHas, NewHave, SetHas, TermHas, one_var, plain_goes, self, up}
@@ -131,8 +131,7 @@ module _ (K : Var → Type 0) where
 -- what is known of a companion that is called
 pub record CompanionRight (n : Node) (l : Link) : Type 0 where
   pub clear : LinkClear n.goal.exist l
-  pub sorted : CompanionSorted l
-  pub fits : IsTrue (insts_fit n.preds l.goal)
+  pub steady : CompanionSteady n.preds l
 
 post_plain : (preds : Preds) (c : Chunk) → FitsPost preds c → ChunkPlain c
 post_plain preds (Inst i) h = h.1
@@ -188,13 +187,13 @@ module _ (n : Node) (w : IsSteadyNode n) where
       let m = match_has K n l ks f s.pre (images_clear l.map map_fits h.clear.1) e in
       let q : BoundOf K f.by g.exist by = exist_bound K next g.exist f.by new m.0 in
       let covered = all_covered l f by q m.1 in
-      let sorted = and_parts (list_all lit_sorted g.pure_pre && list_all chunk_sorted g.pre.chunks && list_all lit_sorted g.pure_post) (list_all chunk_sorted g.post.chunks) h.sorted in
+      let sorted = and_parts (list_all lit_sorted g.pure_pre && list_all chunk_sorted g.pre.chunks && list_all lit_sorted g.pure_post) (list_all chunk_sorted g.post.chunks) (and_parts (goal_fits is_number_var is_set_var g) true h.steady.sorted).0 in
       let sorted_lits = (and_parts (list_all lit_sorted g.pure_pre && list_all chunk_sorted g.pre.chunks) (list_all lit_sorted g.pure_post) sorted.0).1 in
       let before : List Var = g.program ++ chunks_vars g.pre.chunks in
       let chunks : List Var = chunks_vars g.post.chunks in
       let pure : List Var = lits_vars g.pure_pre in
       let lits : List Var = lits_vars g.pure_post in
-      let plain = each_weaker (FitsPost n.preds) ChunkPlain (post_plain n.preds) g.post.chunks (sides_fit n.preds g h.fits).post in
+      let plain = each_weaker (FitsPost n.preds) ChunkPlain (post_plain n.preds) g.post.chunks (sides_fit n.preds g h.steady.fits).post in
       one n w _ refl (same_program n w)
       (lits_and n w (map (apply_lit by) g.pure_post) (lits_have K by q.has g.pure_post sorted_lits (λ v k. covered v (Among-right v (before ++ chunks ++ pure) lits k))))
       (Every-put_all (ChunkClear exist) (chunks_beside 0 f.pairs (pre_of n)) (with_new_cards tag next.cards (map (apply_chunk by) g.post.chunks))

@@ -76,7 +76,7 @@ reading_steady = record {
       exist_apart = refl;
       exist_images = λ k i v e h. absurd (slice_get-among {A = Link} [] i k e);
     };
-    companions = refl;
+    companions = tt;
   };
   exist_stand = refl;
 }

@@ -1,5 +1,5 @@
 -- What the rules ask of a node as facts of each literal, chunk and companion, so that they pass through plain changes.
-use Rattle.std.proofs.Common.{◌≡◌, ap, ℕ, ◌<◌, ◌≤◌, arith, flat_map, Bool, true, false, not, List, ◌++◌, IsTrue, ⊎_elim}
+use Rattle.std.proofs.Common.{[], refl, true, ◌≡◌, ap, ℕ, ◌<◌, ◌≤◌, arith, flat_map, Bool, true, false, not, List, ◌++◌, IsTrue, ⊎_elim}
 use Rattle.std.specs.List.{AllByRecursion, list_all}
 use Rattle.std.proofs.lemmas.Bool.{and_from, and_parts, both_ways, cases_Bool, false_from_ne_true, not-true}
 use Rattle.cyp_goal.proofs.EachVar.{Each}
@@ -17,6 +17,8 @@ use Rattle.cyp_kernel.proofs.NewNumber.{first_new, int_var}
 use Rattle.cyp_kernel.proofs.NormalSteady.{among_at}
 use Rattle.cyp_kernel.proofs.OldVars.{IsOld, next_at, old_vars}
 use Rattle.cyp_kernel.proofs.SteadyParts.{slice_get-among, sorted_goal}
+use Rattle.cyp_heap.specs.declared.pred.Preds.{Preds}
+use Rattle.cyp_kernel.specs.Correct.{unlinked}
 use Rattle.cyp_kernel.specs.Steady.{IsSteady}
 use Rattle.cyp_kernel.specs.SteadyLaws.{IsSteadyNode, IsSteadyRaw}
 use Rattle.cyp_step.specs.Changes.{next_of}
@@ -48,8 +50,8 @@ LitSorted l = lit_sorted l ≡ true
 abbrev pub ChunkSorted : Chunk → Type 0
 ChunkSorted c = chunk_sorted c ≡ true
 
-abbrev pub CompanionSorted : Link → Type 0
-CompanionSorted k = goal_fits is_number_var is_set_var k.goal ≡ true
+abbrev pub CompanionSteady : Preds → Link → Type 0
+CompanionSteady preds k = IsSteady (unlinked preds k.goal)
 
 -- what the rules ask of a node, but for its instances
 pub record IsSettled (n : Node) : Type 0 where
@@ -62,7 +64,7 @@ pub record IsSettled (n : Node) : Type 0 where
   pub pure_post : AllByRecursion LitSorted n.goal.pure_post
   pub post : AllByRecursion ChunkSorted n.goal.post.chunks
   pub links : AllByRecursion (LinkClear n.goal.exist) n.links
-  pub companions : AllByRecursion CompanionSorted n.links
+  pub companions : AllByRecursion (CompanionSteady n.preds) n.links
 
 -- ---- between the two
 
@@ -119,7 +121,7 @@ settled n raw =
             each_at (link_fits is_number_var is_set_var) k n.links (and_parts _ (list_all (link_fits is_number_var is_set_var) n.links) s.sorted).1 i,
             λ v j. s.exist_images k at.0 v at.1 (among_in v (image_vars k.map) j),
           ));
-      companions = each_true (λ (k : Link). goal_fits is_number_var is_set_var k.goal) n.links raw.companions;
+      companions = raw.companions;
     }
 
 pub steady_from : (n : Node) → IsTrue (insts_fit n.preds n.goal) → IsSettled n → IsSteadyRaw n
@@ -143,7 +145,19 @@ steady_from n fits s =
       exist_images = λ k i v at h.
           (Every-among (LinkClear exist) k n.links s.links (slice_get-among n.links i k at)).1 v (in_among v (image_vars k.map) h);
     } in
-    record { steady = steady; companions = tests_true (λ (k : Link). goal_fits is_number_var is_set_var k.goal) n.links s.companions }
+    record { steady = steady; companions = s.companions }
+
+-- the goal alone is as the rules ask
+pub alone_steady : (n : Node) → IsSteady n → IsSteady (unlinked n.preds n.goal)
+alone_steady n s = record {
+  sorted = and_from (goal_fits is_number_var is_set_var n.goal) true (and_parts (goal_fits is_number_var is_set_var n.goal) (list_all (link_fits is_number_var is_set_var) n.links) s.sorted).0 refl;
+  fits = s.fits;
+  program_int = s.program_int;
+  program_differs = s.program_differs;
+  exist_differs = s.exist_differs;
+  exist_apart = s.exist_apart;
+  exist_images = λ k i v e h. absurd (slice_get-among {A = Link} [] i k e);
+}
 
 -- ---- old and new variables
 

@@ -26,11 +26,11 @@ use Rattle.cyp_kernel.proofs.NormalSteady.{formed_is_steady, normal_is_steady}
 use Rattle.cyp_kernel.proofs.NumberedVars.{normal_exist_stand}
 use Rattle.cyp_kernel.proofs.SteadyCall.{CompanionRight, call_steady}
 use Rattle.cyp_kernel.proofs.SteadyFlat.{AreSettled, alloc_steady, frame_steady, free_steady, pick_steady, read_steady, write_steady}
-use Rattle.cyp_kernel.proofs.SteadyNodes.{ChunkClear, ChunkSorted, CompanionSorted, IsSettled, LinkClear, settled_node, steady_from}
+use Rattle.cyp_kernel.proofs.SteadyNodes.{ChunkClear, ChunkSorted, CompanionSteady, IsSettled, LinkClear, settled_node, steady_from}
 use Rattle.cyp_kernel.proofs.SteadyUnfold.{close_steady, open_steady}
 use Rattle.cyp_kernel.specs.Correct.{unlinked}
 use Rattle.cyp_kernel.specs.Steady.{IsSteady}
-use Rattle.cyp_kernel.specs.SteadyLaws.{IsSteadyNode, IsSteadyRaw, LeavesSteady, PremisesSteady, RootIsSteady, companions_sorted}
+use Rattle.cyp_kernel.specs.SteadyLaws.{IsSteadyNode, IsSteadyRaw, LeavesSteady, PremisesSteady, RootIsSteady, CompanionsSteady}
 use Rattle.cyp_step.proofs.ChunkLists.{Every-slice_get}
 use Rattle.cyp_step.proofs.EachRule.{raws_left}
 use Rattle.cyp_step.proofs.Premises.{premises_are_nodes}
@@ -76,8 +76,7 @@ companions_right : (n : Node) → IsSteadyNode n → AllByRecursion (CompanionRi
 companions_right n w =
     Every-from_among (CompanionRight n) n.links (λ l i. record {
       clear = Every-among (LinkClear n.goal.exist) l n.links (settled_node n w).links i;
-      sorted = Every-among CompanionSorted l n.links (settled_node n w).companions i;
-      fits = each_at (λ (k : Link). insts_fit n.preds k.goal) l n.links w.node.raw.linked.goals_fit i;
+      steady = Every-among (CompanionSteady n.preds) l n.links (settled_node n w).companions i;
     })
 
 raws_settled : (n : Node) → IsFormedPreds n.preds → IsSteadyNode n → (r : Rule) → AreSettled (raws n r)
@@ -106,24 +105,20 @@ leaves_steady n r ms f w e =
 -- ---- the premises
 
 -- the normal form leaves the companions' goals
-companions_kept : IsKept (λ n. companions_sorted n ≡ true)
+companions_kept : IsKept CompanionsSteady
 companions_kept = record {
-  applied = λ by k n h. same_goals (apply_link by) (λ l. refl) n.links h;
+  applied = λ by k n h. same_goals n.preds (apply_link by) (λ l. refl) n.links h;
   beside = λ n g e f h. h;
-  maps = λ n to h. same_goals (λ (k : Link). record k { map = to k }) (λ l. refl) n.links h;
+  maps = λ n to h. same_goals n.preds (λ (k : Link). record k { map = to k }) (λ l. refl) n.links h;
 }
   where
-    same_goals : (f : Link → Link) → ((l : Link) → (f l).goal ≡ l.goal) → (ls : List Link) → list_all (λ (k : Link). goal_fits is_number_var is_set_var k.goal) ls ≡ true
-        → list_all (λ (k : Link). goal_fits is_number_var is_set_var k.goal) (map f ls) ≡ true
-    same_goals f e [] h = refl
-    same_goals f e (l ∷ ls) h =
-        let both = and_parts (goal_fits is_number_var is_set_var l.goal) (list_all (λ (k : Link). goal_fits is_number_var is_set_var k.goal) ls) h in
-        and_from (goal_fits is_number_var is_set_var (f l).goal) (list_all (λ (k : Link). goal_fits is_number_var is_set_var k.goal) (map f ls))
-        (subst (λ (g : Goal). goal_fits is_number_var is_set_var g ≡ true) (sym (e l)) both.0) (same_goals f e ls both.1)
+    same_goals : (preds : Preds) (f : Link → Link) → ((l : Link) → (f l).goal ≡ l.goal) → (ls : List Link) → AllByRecursion (CompanionSteady preds) ls → AllByRecursion (CompanionSteady preds) (map f ls)
+    same_goals preds f e [] h = tt
+    same_goals preds f e (l ∷ ls) h = (subst (λ (g : Goal). IsSteady (unlinked preds g)) (sym (e l)) h.0, same_goals preds f e ls h.1)
 
-normal_companions : (n : Node) (r : Renaming) → companions_sorted n ≡ true → normal n ≡ Some r → companions_sorted r.node ≡ true
+normal_companions : (n : Node) (r : Renaming) → CompanionsSteady n → normal n ≡ Some r → CompanionsSteady r.node
 normal_companions n r h e =
-    let k : IsKeptWithin (λ m. companions_sorted m ≡ true) r = subst (λ (o : Option Renaming). IfSome o (IsKeptWithin (λ m. companions_sorted m ≡ true))) e (normal_kept (λ m. companions_sorted m ≡ true) companions_kept n h) in
+    let k : IsKeptWithin CompanionsSteady r = subst (λ (o : Option Renaming). IfSome o (IsKeptWithin CompanionsSteady)) e (normal_kept CompanionsSteady companions_kept n h) in
     k.fact
 
 premises_each : (preds : Preds) (ms : List Node) (rs : List Renaming) → AllByRecursion (IsOver preds IsSteadyRaw) ms → all_normal ms ≡ Some rs
@@ -155,7 +150,7 @@ root_is_steady preds g r f sorted e =
       same = node.same;
       fact = record {
         node = node.fact;
-        raw = record { steady = normal_is_steady m r before e; companions = normal_companions m r refl e };
+        raw = record { steady = normal_is_steady m r before e; companions = normal_companions m r tt e };
         exist_stand = normal_exist_stand m r before e;
       };
     }

@@ -21,7 +21,7 @@ use Rattle.cyp_kernel.proofs.NewNumber.{int_var, old_parts}
 use Rattle.cyp_kernel.proofs.OldVars.{IsOld}
 use Rattle.cyp_kernel.proofs.RuleClose.{from_first, own_apart, own_vars}
 use Rattle.cyp_kernel.proofs.SteadyFlat.{AreSettled, differ_join}
-use Rattle.cyp_kernel.proofs.SteadyNodes.{ChunkClear, ChunkSorted, Clear, CompanionSorted, IsSettled, LinkClear, LitClear, LitSorted, both_tests, both_vars, each_both, exist_old, fresh_clear, new_clear, settled_node, tests_true}
+use Rattle.cyp_kernel.proofs.SteadyNodes.{alone_steady, ChunkClear, ChunkSorted, Clear, CompanionSteady, IsSettled, LinkClear, LitClear, LitSorted, both_tests, both_vars, each_both, exist_old, fresh_clear, new_clear, settled_node, tests_true}
 use Rattle.cyp_kernel.proofs.UnfoldEntries.{entries_have}
 use Rattle.cyp_kernel.proofs.UnfoldParams.{set_numbered}
 use Rattle.cyp_kernel.proofs.UnfoldVars.{ArgHas, ChunkHas, LitHas, NewHave, UnfoldedHas}
@@ -232,7 +232,7 @@ module _ (n : Node) (formed : IsFormedPreds n.preds) (w : IsSteadyNode n) where
         pure_post = s.pure_post;
         post = s.post;
         links = Every-append (LinkClear exist) n.links (open_link n i j ∷ []) s.links (link_clear i j both.1, tt);
-        companions = Every-append CompanionSorted n.links (open_link n i j ∷ []) s.companions ((and_parts (goal_fits is_number_var is_set_var n.goal) (list_all (link_fits is_number_var is_set_var) n.links) w.raw.steady.sorted).0, tt);
+        companions = Every-append (CompanionSteady n.preds) n.links (open_link n i j ∷ []) s.companions (alone_steady n w.raw.steady, tt);
       })
       entries all))
       (λ e. rw e tt)

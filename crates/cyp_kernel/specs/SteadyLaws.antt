@@ -1,8 +1,8 @@
 -- What each node of a derivation keeps, from a rule to its premises.
-use Rattle.std.specs.Prelude.{Bool, IsTrue, List, Some, not, ◌≡◌}
-use Rattle.std.specs.List.{All, list_all}
+use Rattle.std.specs.Prelude.{IsTrue, List, Some, ◌≡◌}
+use Rattle.std.specs.List.{All, AllByRecursion, list_all}
 use Rattle.cyp_goal.specs.Normal.{Renaming, normal}
-use Rattle.cyp_goal.specs.Raw.{goal_fits, is_sorted}
+use Rattle.cyp_goal.specs.Raw.{is_sorted}
 use Rattle.cyp_heap.specs.Formed.{IsFormed}
 use Rattle.cyp_heap.specs.Goals.{node_vars}
 use Rattle.cyp_heap.specs.PredsFormed.{IsFormedPreds}
@@ -15,16 +15,16 @@ use Rattle.cyp_kernel.specs.Steady.{IsSteady}
 use Rattle.cyp_step.specs.Nodes.{IsNode, IsOver}
 use Rattle.cyp_step.specs.Step.{premises, raws}
 use Rattle.cyp_step.specs.declared.rule.Rule.{Rule}
-use Rattle.cyp_term.specs.Terms.{is_set_var, var_in}
+use Rattle.cyp_term.specs.Terms.{var_in}
 
--- the goals of the companions have the sorts of their places
-abbrev pub companions_sorted : Node → Bool
-companions_sorted n = list_all (λ (k : Link). goal_fits (λ v. not (is_set_var v)) is_set_var k.goal) n.links
+-- each companion's goal, as a node without companions, is as the rules ask
+abbrev pub CompanionsSteady : Node → Type 0
+CompanionsSteady n = AllByRecursion (λ (k : Link). IsSteady (unlinked n.preds k.goal)) n.links
 
 -- a node as a rule leaves it, before the normal form: it is as the rules ask, and so are its companions
 pub record IsSteadyRaw (n : Node) : Type 0 where
   pub steady : IsSteady n
-  pub companions : IsTrue (companions_sorted n)
+  pub companions : CompanionsSteady n
 
 -- a steady node within limits and well linked, each of whose existentials stands in it
 pub record IsSteadyNode (n : Node) : Type 0 where

@@ -1,4 +1,4 @@
-ghost use Rattle.cyp_kernel.specs.NormalRules.{NormalRuleLaw};
+ghost use Rattle.cyp_kernel.specs.NormalRules.{NodeRuleLaw, NormalRuleLaw};
 ghost use Rattle.cyp_kernel.specs.RuleLaws.{RuleLaw};
 ghost use Rattle.cyp_step.specs.declared.rule.Rule.{Rule};
 ghost use Rattle.cyp_step.specs.declared.rule.Rule.TheVariants.{ByAlloc, ByClose, ByEmp, ByFrame, ByFree, ByInconsistent, ByPick, ByRead, ByWrite};
@@ -8,7 +8,8 @@ ghost use Rattle.std.specs.Prelude.{ℕ};
 /// Law: where the bodies of a rule's premises meet the premises' goals, under the names that are passed
 /// on, the body of the node that the rule stands for meets the node's goal.
 pub fn rules_are_sound_in_normal_form()
-    ensures each { (r : Rule) → RuleLaw r → NormalRuleLaw r }
+    ensures at { (r : Rule) → RuleLaw r → NodeRuleLaw r }
+    ensures each { (r : Rule) → NodeRuleLaw r → NormalRuleLaw r }
     ensures inconsistent { NormalRuleLaw ByInconsistent }
     ensures emp { NormalRuleLaw ByEmp }
     ensures read { (i : ℕ) → NormalRuleLaw (ByRead i) }

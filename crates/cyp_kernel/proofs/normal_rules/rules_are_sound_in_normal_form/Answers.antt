@@ -1,4 +1,4 @@
-use Rattle.cyp_kernel.proofs.NormalRules.{through_normal}
+use Rattle.cyp_kernel.proofs.NormalRules.{at_nodes, through_node, through_normal}
 use Rattle.cyp_kernel.proofs.RuleAlloc.{by_alloc}
 use Rattle.cyp_kernel.proofs.RuleClose.{by_close}
 use Rattle.cyp_kernel.proofs.RuleEmp.{by_emp}
@@ -12,7 +12,10 @@ use Rattle.cyp_kernel.proofs.normal_rules.rules_are_sound_in_normal_form.Goals a
 use Rattle.cyp_step.specs.declared.rule.Rule.TheVariants.{ByAlloc, ByClose, ByEmp, ByFrame, ByFree, ByInconsistent, ByPick, ByRead, ByWrite}
 
 pub returns-clause-each : goal.returns-clause-each
-returns-clause-each c = through_normal
+returns-clause-each c = through_node
+
+pub returns-clause-at : goal.returns-clause-at
+returns-clause-at c = at_nodes
 
 pub returns-clause-inconsistent : goal.returns-clause-inconsistent
 returns-clause-inconsistent c = through_normal ByInconsistent by_inconsistent
