@@ -1,5 +1,5 @@
 -- Call leaves what the rules ask.
-use Rattle.std.proofs.Common.{◌≡◌, refl, sym, ap, ℕ, suc, ◌≤◌, arith, Bool, true, false, not, ◌&&◌, ◌==◌, List, [], ◌∷◌, ◌++◌, IfSome, IsTrue, Option, Some, None, filter, flat_map, map, subst}
+use Rattle.std.proofs.Common.{◌≡◌, refl, sym, ap, ℕ, suc, ◌≤◌, arith, Bool, true, false, not, ◌&&◌, ◌==◌, List, [], ◌∷◌, ◌++◌, IfSome, Option, Some, None, filter, flat_map, map, subst}
 use Rattle.std.specs.List.{AllByRecursion, list_all, list_any}
 use Rattle.std.proofs.lemmas.Bool.{and_from, and_parts, cond_both, false≢true}
 use Rattle.cyp_goal.proofs.EachVar.{Each, first, second}
@@ -8,7 +8,6 @@ use Rattle.cyp_goal.proofs.LinksFit.{FitsPost, sides_fit}
 use Rattle.cyp_goal.proofs.Live.{in_among}
 use Rattle.cyp_goal.specs.Raw.{arg_fits, goal_fits, images_fit, set_fits, term_fits}
 use Rattle.cyp_heap.specs.Chunks.{apply_chunk, arg_vars, card_vars, chunk_vars, chunks_vars, insts}
-use Rattle.cyp_heap.specs.Formed.{insts_fit}
 use Rattle.cyp_heap.specs.Goals.{goal_vars}
 use Rattle.cyp_heap.specs.declared.chunk.Chunk.{Chunk}
 use Rattle.cyp_heap.specs.declared.chunk.Chunk.TheVariants.{Block, Cell, Inst}

@@ -11,13 +11,13 @@ use Rattle.cyp_heap.specs.Goals.{image_vars}
 use Rattle.cyp_heap.specs.declared.chunk.Chunk.{Chunk}
 use Rattle.cyp_heap.specs.declared.goal.Link.{Link}
 use Rattle.cyp_heap.specs.declared.goal.Node.{Node}
+use Rattle.cyp_heap.specs.declared.pred.Preds.{Preds}
 use Rattle.cyp_kernel.proofs.AgreeVars.{chunk_sorted, is_number_var, lit_sorted}
 use Rattle.cyp_kernel.proofs.AppliedVars.{joined}
 use Rattle.cyp_kernel.proofs.NewNumber.{first_new, int_var}
 use Rattle.cyp_kernel.proofs.NormalSteady.{among_at}
 use Rattle.cyp_kernel.proofs.OldVars.{IsOld, next_at, old_vars}
 use Rattle.cyp_kernel.proofs.SteadyParts.{slice_get-among, sorted_goal}
-use Rattle.cyp_heap.specs.declared.pred.Preds.{Preds}
 use Rattle.cyp_kernel.specs.Correct.{unlinked}
 use Rattle.cyp_kernel.specs.Steady.{IsSteady}
 use Rattle.cyp_kernel.specs.SteadyLaws.{IsSteadyNode, IsSteadyRaw}

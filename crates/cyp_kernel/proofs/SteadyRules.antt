@@ -1,15 +1,14 @@
 -- What each rule leaves is as the rules ask, and so are the premises and the root.
 use Rattle.std.proofs.Common.{◌≡◌, ◌∷◌, ◌&&◌, ◌==◌, refl, sym, true, List, [], IfSome, Option, Some, is_none, length, map, slice_get, subst}
 use Rattle.std.specs.List.{AllByRecursion, list_all}
-use Rattle.std.proofs.lemmas.Bool.{and_from, and_parts}
+use Rattle.std.proofs.lemmas.Bool.{and_parts}
 use Rattle.std.proofs.lemmas.List.Elements.{All-from_recursion, recursion_from_All}
 use Rattle.std.proofs.lemmas.Option.{option_and_then_some, same_Some}
 use Rattle.cyp_goal.proofs.LinksNormal.{IsKept, IsKeptWithin, normal_kept}
 use Rattle.cyp_goal.specs.Facts.{facts}
 use Rattle.cyp_goal.specs.Normal.{Renaming, normal}
-use Rattle.cyp_goal.specs.Raw.{goal_fits}
 use Rattle.cyp_heap.specs.Chunks.{insts}
-use Rattle.cyp_heap.specs.Formed.{inst_fits, insts_fit}
+use Rattle.cyp_heap.specs.Formed.{inst_fits}
 use Rattle.cyp_heap.specs.Goals.{apply_link}
 use Rattle.cyp_heap.specs.PredsFormed.{IsFormedPreds, insts_plain}
 use Rattle.cyp_heap.specs.declared.chunk.InstOf.{InstOf}
@@ -19,7 +18,6 @@ use Rattle.cyp_heap.specs.declared.goal.Node.{Node}
 use Rattle.cyp_heap.specs.declared.pred.Clause.{Clause}
 use Rattle.cyp_heap.specs.declared.pred.Pred.{Pred}
 use Rattle.cyp_heap.specs.declared.pred.Preds.{Preds}
-use Rattle.cyp_kernel.proofs.AgreeVars.{is_number_var}
 use Rattle.cyp_kernel.proofs.Allowed.{mapped_some}
 use Rattle.cyp_kernel.proofs.NormalEach.{Split, split}
 use Rattle.cyp_kernel.proofs.NormalSteady.{formed_is_steady, normal_is_steady}
@@ -44,7 +42,6 @@ use Rattle.cyp_step.specs.declared.rule.Rule.{Rule}
 use Rattle.cyp_step.specs.declared.rule.Rule.TheVariants.{ByAlloc, ByCall, ByClose, ByEmp, ByFrame, ByFree, ByInconsistent, ByOpen, ByPick, ByRead, ByWrite}
 use Rattle.cyp_term.proofs.Lists.{Every-among, Every-from_among, each_at, each_from}
 use Rattle.cyp_term.specs.Entailment.{satisfiable}
-use Rattle.cyp_term.specs.Terms.{is_set_var}
 use Rattle.cyp_unify.specs.Frames.{focus}
 
 -- the instances in the clauses of formed predicates fit

@@ -5,7 +5,7 @@ use Rattle.std.proofs.lemmas.Bool.{and_from, and_parts, false_from_ne_true, not-
 use Rattle.std.proofs.lemmas.List.Folds.{list_any-append}
 use Rattle.cyp_goal.proofs.EachVar.{Each, EachPart, first, link_vars, second}
 use Rattle.cyp_goal.proofs.Live.{in_among}
-use Rattle.cyp_goal.specs.Raw.{arg_fits, goal_fits, images_fit, link_fits, set_fits, term_fits}
+use Rattle.cyp_goal.specs.Raw.{arg_fits, images_fit, set_fits, term_fits}
 use Rattle.cyp_heap.specs.Chunks.{arg_vars, card_vars, chunk_vars, put_all, without}
 use Rattle.cyp_heap.specs.Formed.{all_differ}
 use Rattle.cyp_heap.specs.Goals.{image_vars, node_vars}
