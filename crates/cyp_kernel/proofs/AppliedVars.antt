@@ -37,7 +37,6 @@ joined P us ws f g v k = ⊎_elim (f v) (g v) (Among-cases v us ws k)
 pub record Brings (by : Subst) (p q : Var → Bool) (K P : Var → Type 0) : Type 0 where
   pub ints : (v : Var) → p v ≡ true → K v → Each P (image_base v (int_image by.ints v))
   pub sets : (v : Var) → q v ≡ true → K v → Each P (set_vars (image_or_self v (set_image by.sets v)))
-  pub vars : (v : Var) → p v ≡ true → K v → P (apply_var by v)
 
 module _ (by : Subst) (p q : Var → Bool) (K P : Var → Type 0) (brings : Brings by p q K P) where
   at_image : (t : Term) (v : Var) → t.base ≡ Some v → (o : Option Term) → Each P (image_base v o) → Each P (term_vars (term_at t o))
@@ -99,7 +98,7 @@ module _ (by : Subst) (p q : Var → Bool) (K P : Var → Type 0) (brings : Brin
   term_and_set : (a : Term) (b : SetTerm) → (term_fits p a && set_fits p q b) ≡ true → Each K (term_vars a ++ set_vars b) → Each P (term_vars (apply_term by a) ++ set_vars (apply_set by b))
   term_and_set a b = both_each (term_fits p a) (set_fits p q b) (term_vars a) (set_vars b) (term_vars (apply_term by a)) (set_vars (apply_set by b)) (term_each a) (set_each b)
 
-  lit_each : (l : Lit) → lit_fits p q l ≡ true → Each K (lit_vars l) → Each P (lit_vars (apply_lit by l))
+  pub lit_each : (l : Lit) → lit_fits p q l ≡ true → Each K (lit_vars l) → Each P (lit_vars (apply_lit by l))
   lit_each (Eq a b) = two_terms a b
   lit_each (Ne a b) = two_terms a b
   lit_each (Le a b) = two_terms a b
@@ -118,20 +117,20 @@ module _ (by : Subst) (p q : Var → Bool) (K P : Var → Type 0) (brings : Brin
   arg_each (IntArg t) = term_each t
   arg_each (SetArg u) = set_each u
 
-  card_each : (c : Option Var) → list_all p (card_vars c) ≡ true → Each K (card_vars c) → Each P (card_vars (apply_card by c))
-  card_each None h k v m = absurd m
-  card_each (Some c) h k v (inl e) = subst P (sym e) (brings.vars c (and_parts (p c) true h).0 (k c (inl refl)))
-  card_each (Some c) h k v (inr m) = absurd m
+  -- what a cardinality becomes
+  abbrev pub CardGoes : Option Var → Type 0
+  CardGoes c = list_all p (card_vars c) ≡ true → Each K (card_vars c) → Each P (card_vars (apply_card by c))
 
-  chunk_each : (c : Chunk) → chunk_fits p q c ≡ true → Each K (chunk_vars c) → Each P (chunk_vars (apply_chunk by c))
-  chunk_each (Inst i) =
+  abbrev pub ChunkGoes : Chunk → Type 0
+  ChunkGoes (Inst i) = CardGoes i.card
+  ChunkGoes _ = Unit {0}
+
+  pub chunk_each : (c : Chunk) → ChunkGoes c → chunk_fits p q c ≡ true → Each K (chunk_vars c) → Each P (chunk_vars (apply_chunk by c))
+  chunk_each (Inst i) g =
       both_each (list_all (arg_fits p q) i.args) (list_all p (card_vars i.card)) (flat_map arg_vars i.args) (card_vars i.card) (flat_map arg_vars (map (apply_arg by) i.args)) (card_vars (apply_card by i.card))
-      (list_each (arg_fits p q) arg_vars (apply_arg by) arg_vars arg_each i.args) (card_each i.card)
-  chunk_each (Block b) = term_each b.at
-  chunk_each (Cell c) = two_terms c.at c.content
-
-  pub chunks_each : (cs : List Chunk) → list_all (chunk_fits p q) cs ≡ true → Each K (chunks_vars cs) → Each P (chunks_vars (map (apply_chunk by) cs))
-  chunks_each = list_each (chunk_fits p q) chunk_vars (apply_chunk by) chunk_vars chunk_each
+      (list_each (arg_fits p q) arg_vars (apply_arg by) arg_vars arg_each i.args) g
+  chunk_each (Block b) g = term_each b.at
+  chunk_each (Cell c) g = two_terms c.at c.content
 
   -- the images of a map
   pub maps_each : (m : Subst) → images_fit p q m ≡ true → Each K (image_vars m) → Each P (image_vars (record { ints = map (apply_bind by) m.ints; sets = map (apply_set_bind by) m.sets }))
@@ -141,3 +140,18 @@ module _ (by : Subst) (p q : Var → Bool) (K P : Var → Type 0) (brings : Brin
       (flat_map (λ (b : IntBind). term_vars b.to) (map (apply_bind by) m.ints)) (flat_map (λ (b : SetBind). set_vars b.to) (map (apply_set_bind by) m.sets))
       (list_each (λ (b : IntBind). term_fits p b.to) (λ (b : IntBind). term_vars b.to) (apply_bind by) (λ (b : IntBind). term_vars b.to) (λ b. term_each b.to) m.ints)
       (list_each (λ (b : SetBind). set_fits p q b.to) (λ (b : SetBind). set_vars b.to) (apply_set_bind by) (λ (b : SetBind). set_vars b.to) (λ b. set_each b.to) m.sets)
+
+  -- chunks, by what the images of cardinalities are
+  module _ (vars : (v : Var) → p v ≡ true → K v → P (apply_var by v)) where
+    card_each : (c : Option Var) → CardGoes c
+    card_each None h k v m = absurd m
+    card_each (Some c) h k v (inl e) = subst P (sym e) (vars c (and_parts (p c) true h).0 (k c (inl refl)))
+    card_each (Some c) h k v (inr m) = absurd m
+
+    goes : (c : Chunk) → ChunkGoes c
+    goes (Inst i) = card_each i.card
+    goes (Block b) = tt
+    goes (Cell c) = tt
+
+    pub chunks_each : (cs : List Chunk) → list_all (chunk_fits p q) cs ≡ true → Each K (chunks_vars cs) → Each P (chunks_vars (map (apply_chunk by) cs))
+    chunks_each = list_each (chunk_fits p q) chunk_vars (apply_chunk by) chunk_vars (λ c. chunk_each c (goes c))

@@ -35,7 +35,7 @@ use Rattle.cyp_kernel.proofs.SolveMeaning.{IsApart, Solved, solve_meaning}
 use Rattle.cyp_kernel.proofs.TidyMeaning.{out_filter}
 use Rattle.cyp_kernel.specs.Meaning.{NormalIsReady, OldAreProgram}
 use Rattle.cyp_term.proofs.Lists.{Among, each_at, each_from, filter_out, map_from}
-use Rattle.cyp_term.specs.Terms.{image_or_self, int_image, is_set_var, lits_vars, set_image, set_var, set_vars, var_at, var_in, var_eq, var_term}
+use Rattle.cyp_term.specs.Terms.{apply_var, image_or_self, int_image, is_set_var, lits_vars, set_image, set_var, set_vars, var_at, var_in, var_eq, var_term}
 use Rattle.cyp_term.specs.declared.lit.SetTerm.{SetTerm}
 use Rattle.cyp_term.specs.declared.subst.Subst.{Subst}
 use Rattle.cyp_term.specs.declared.term.Term.{Term}
@@ -152,8 +152,10 @@ module _ (x : Node) (f : HasSorts no_set is_set_var x) (used : Each (λ v. Among
   brings = record {
     ints = λ v h k. subst (λ (o : Option Term). Each Out (image_base v o)) (sym (int_new vs v h k.0)) (one_out v k);
     sets = λ v h k. subst (λ (o : Option SetTerm). Each Out (set_vars (image_or_self v o))) (sym (set_new vs v h k.0)) (one_out v k);
-    vars = λ v h k. subst (λ (o : Option Term). Out (var_at v o)) (sym (int_new vs v h k.0)) (new_beside vs x.goal.exist used v k.0 k.1);
   }
+
+  brings_vars : (v : Var) → no_set v ≡ true → Known v → Out (apply_var by v)
+  brings_vars v h k = subst (λ (o : Option Term). Out (var_at v o)) (sym (int_new vs v h k.0)) (new_beside vs x.goal.exist used v k.0 k.1)
 
   pub lits_out : Each Out (lits_vars (renumber x).goal.pure_pre)
   lits_out =
@@ -163,7 +165,7 @@ module _ (x : Node) (f : HasSorts no_set is_set_var x) (used : Each (λ v. Among
   pub chunks_out : Each Out (chunks_vars (renumber x).goal.pre.chunks)
   chunks_out =
       let parts : EachPart (λ v. Among v vs) x = each_part (λ v. Among v vs) x (λ v i. i) in
-      chunks_each by no_set is_set_var Known Out brings x.goal.pre.chunks f.pre (λ v k. (parts.pre v k, out.chunks v k))
+      chunks_each by no_set is_set_var Known Out brings brings_vars x.goal.pre.chunks f.pre (λ v k. (parts.pre v k, out.chunks v k))
 
   -- no existential is in a list whose variables are none
   pub all_apart : (us : List Var) → Each Out us → list_all (λ v. not (var_in v us)) (renumber x).goal.exist ≡ true

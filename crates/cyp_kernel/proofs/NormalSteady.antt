@@ -82,7 +82,7 @@ differ_new vs (u ∷ us) e h =
     and_from (not (var_in (new_name vs u) (map (new_name vs) us))) (all_differ (map (new_name vs) us))
     (ap not (new_beside vs us rest u (e u (inl refl)) (not-true (var_in u us) both.0))) (differ_new vs us rest both.1)
 
-among_at : {A : Type 0} (x : A) (xs : List A) → Among x xs → (i : ℕ) × (slice_get xs i ≡ Some x)
+pub among_at : {A : Type 0} (x : A) (xs : List A) → Among x xs → (i : ℕ) × (slice_get xs i ≡ Some x)
 among_at x [] k = absurd k
 among_at x (y ∷ xs) (inl e) = (zero, ap Some (sym e))
 among_at x (y ∷ xs) (inr k) = let r = among_at x xs k in (suc r.0, r.1)

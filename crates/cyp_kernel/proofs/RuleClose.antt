@@ -45,7 +45,7 @@ use Rattle.cyp_unify.specs.Frames.{focus}
 
 -- ---- the clause's own variables are new
 
-from_first : (j a m : ℕ) → Among j (count_from a m) → a ≤ j
+pub from_first : (j a m : ℕ) → Among j (count_from a m) → a ≤ j
 from_first j a zero h = absurd h
 from_first j a (suc m) (inl e) = same j a e
   where
@@ -61,7 +61,7 @@ module _ (x : Next) (o : Sort) where
   abbrev numbered : ℕ → List Var
   numbered m = map (λ j. record { sort = o; number = j }) (count_from (next_at x o) m)
 
-  not_numbered : (v : Var) → IsOld x v → (m : ℕ) → var_in v (numbered m) ≡ false
+  pub not_numbered : (v : Var) → IsOld x v → (m : ℕ) → var_in v (numbered m) ≡ false
   not_numbered v h m = false_from_ne_true (var_in v (numbered m)) (λ e.
       let r = map_from (λ j. record { sort = o; number = j }) v (count_from (next_at x o) m) (among_from_in v (numbered m) e) in
       apart r.0 (next_at x o) (subst (λ (w : Var). IsOld x w) r.2 h) (from_first r.0 (next_at x o) m r.1))
@@ -88,7 +88,7 @@ fewer_exist preds g s t own h ns lits chunks a b beside k =
         (agree_sym v.sort s t v (beside v (list_any-append (var_eq v) g.exist own ∙ or_from (var_in v g.exist) (var_in v own) e new)))
         (mixed_out g.exist s t v.sort v e)
 
-abbrev own_vars : Next → Unfolded → List Var
+abbrev pub own_vars : Next → Unfolded → List Var
 own_vars next u = new_ints next.ints (u.next.ints - next.ints) ++ new_sets next.sets (u.next.sets - next.sets)
 
 abbrev closed_node : Node → Unfolded → Node
@@ -104,7 +104,7 @@ close_parts n k (Some (Inst j)) ms is =
     (j, refl, b.0, b.1, sym b.2)
 close_parts n k o ms is = cc
 
-own_apart : (n : Node) (u : Unfolded) (v : Var) → IsOld (next_of n) v → var_in v (own_vars (next_of n) u) ≡ false
+pub own_apart : (n : Node) (u : Unfolded) (v : Var) → IsOld (next_of n) v → var_in v (own_vars (next_of n) u) ≡ false
 own_apart n u v h =
     let next : Next = next_of n in
     list_any-append (var_eq v) (new_ints next.ints (u.next.ints - next.ints)) (new_sets next.sets (u.next.sets - next.sets))

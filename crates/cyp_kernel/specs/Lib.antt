@@ -8,7 +8,9 @@ pub mod Meaning
 pub mod Meets
 pub mod Naming
 pub mod Narrow
+pub mod NormalRules
 pub mod NormalSteady
 pub mod RuleLaws
 pub mod Statements
 pub mod Steady
+pub mod SteadyLaws
