@@ -6,3 +6,5 @@ pub mod Heights
 pub mod Mapping
 pub mod Meeting
 pub mod Reading
+pub mod Solving
+pub mod Separating

@@ -2,6 +2,7 @@
 #![tactic(auto)]
 
 mod bounds;
+mod gaps;
 
 pub use bounds::{Adding, Bounds};
 
