@@ -8,3 +8,5 @@ pub mod Meeting
 pub mod Reading
 pub mod Solving
 pub mod Separating
+pub mod Vars
+pub mod Levels

@@ -3,8 +3,12 @@
 
 mod bounds;
 mod gaps;
+mod places;
+mod solve;
+mod system;
 
 pub use bounds::{Adding, Bounds};
+pub use solve::Value;
 
 #[cfg(test)]
 mod tests;

@@ -1,0 +1,1 @@
+use Rattle.cyp_diff.proofs.system.add_eq.Goals as goal
