@@ -10,3 +10,6 @@ pub mod Solving
 pub mod Separating
 pub mod Vars
 pub mod Levels
+pub mod Truths
+pub mod Gathering
+pub mod Answering

@@ -4,11 +4,11 @@
 mod bounds;
 mod gaps;
 mod places;
-mod solve;
+mod solver;
 mod system;
 
 pub use bounds::{Adding, Bounds};
-pub use solve::Value;
+pub use solver::{Value, solve, solve_with};
 
 #[cfg(test)]
 mod tests;
