@@ -9,7 +9,7 @@ returns-in-Some c =
     solved_some c.args.lits.now c.as_slice.result.now c.in_ok-xs.field-0 c.in-Some.xs c.in_ok-values_of-in-Some.field-0 c.requires.ints (c.as_slice.ensures.value ∙ c.in_ok-vars.ensures)
     c.in_ok-xs.ensures c.in-Some.is
     (c.in_ok-values_of-in-Some.ensures
-      ∙ ap₂ (λ ys vs. values_from (at ys) vs 1) c.as_slice-in-Some-2.ensures (c.as_slice-in-Some.ensures.value ∙ sym c.as_slice.ensures.value))
+    ∙ ap₂ (λ ys vs. values_from (at ys) vs 1) c.as_slice-in-Some-2.ensures (c.as_slice-in-Some.ensures.value ∙ sym c.as_slice.ensures.value))
 
 pub returns : goal.returns
 returns c = solved_none c.args.lits.now c.as_slice.result.now c.in_ok-xs.field-0 c.requires.ints (c.as_slice.ensures.value ∙ c.in_ok-vars.ensures) c.in_ok-xs.ensures c.in-None.is
