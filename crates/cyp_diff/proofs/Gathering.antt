@@ -1,5 +1,5 @@
 -- Literals are gathered one by one into bounds and gaps.
-use Rattle.std.proofs.Common.{◌≡◌, ℕ, zero, suc, ◌+◌, ◌<◌, ◌≤◌, ℤ, Bool, true, false, List, [], ◌∷◌, ◌++◌, length, get_or, take, Option, Some, None, Result, Ok, Err, refl, sym, ap, ◌∙◌, subst, add-one, arith}
+use Rattle.std.proofs.Common.{◌≡◌, ℕ, zero, suc, ◌+◌, ◌<◌, ◌≤◌, ℤ, true, false, List, [], ◌∷◌, length, get_or, take, Option, Some, None, Result, Ok, Err, sym, ◌∙◌, subst, add-one, arith}
 use Rattle.std.proofs.lemmas.List.{take_all}
 use Rattle.std.proofs.lemmas.List.Elements.{All-take}
 use Rattle.std.specs.Prelude.{◌↔◌, IfOk}
@@ -8,7 +8,7 @@ use Rattle.cyp_term.specs.declared.lit.Lit.{Lit}
 use Rattle.cyp_term.specs.declared.term.Var.{Var}
 use Rattle.cyp_diff.specs.declared.gaps.Gap.{Gap}
 use Rattle.cyp_diff.specs.Distances.{Meets}
-use Rattle.cyp_diff.specs.Gaps.{Apart, IsGap, SeparateMeans}
+use Rattle.cyp_diff.specs.Gaps.{Apart, SeparateMeans}
 use Rattle.cyp_diff.specs.Places.{Holds}
 use Rattle.cyp_diff.specs.Solution.{at}
 use Rattle.cyp_diff.specs.Systems.{LitMeans, SystemMeans}

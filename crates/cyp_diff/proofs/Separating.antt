@@ -1,5 +1,5 @@
 -- A gap that is broken is split into its two orders.
-use Rattle.std.proofs.Common.{◌≡◌, ◌⊎◌, inl, inr, ℕ, zero, suc, ◌+◌, ◌*◌, ◌^◌, ◌-◌, ◌<◌, ◌≤◌, ℤ, pos, negsuc, neg_ℤ, ◌+ℤ◌, ◌-ℤ◌, ◌≤ℤ◌, ◌<ℤ◌, List, [], ◌∷◌, ◌++◌, length, get_or, take, drop, Option, Some, None, Result, Ok, Err, FitsSigned, to_z, of_z, w64, refl, sym, ap, ap₂, ◌∙◌, subst, arith}
+use Rattle.std.proofs.Common.{◌≡◌, ◌⊎◌, inl, inr, ℕ, zero, suc, ◌^◌, ◌≤◌, ℤ, pos, negsuc, neg_ℤ, ◌+ℤ◌, ◌-ℤ◌, ◌≤ℤ◌, ◌<ℤ◌, List, [], ◌∷◌, length, Option, Some, None, Result, Ok, Err, FitsSigned, to_z, of_z, w64, sym, ap, ◌∙◌, subst, arith}
 use Rattle.std.proofs.lemmas.Int.{ints, to_z-of_z}
 use Rattle.std.specs.Prelude.{◌↔◌, IfOk}
 use Rattle.std.specs.List.{All, remove, slice_get}
@@ -7,7 +7,7 @@ use lib.Signed.{mag}
 use Rattle.cyp_diff.specs.declared.gaps.Gap.{Gap}
 use Rattle.cyp_diff.specs.Distances.{Meets, Within, IsSmall}
 use Rattle.cyp_diff.specs.Gaps.{Apart, IsGap, SeparateMeans, SideMeans}
-use Rattle.cyp_diff.specs.Solution.{at, Solves}
+use Rattle.cyp_diff.specs.Solution.{at}
 
 -- ---- one item of a list, and the others
 pub All-item : {X : Type 0} (P : X → Type 0) (xs : List X) (k : ℕ) (y : X) → slice_get xs k ≡ Some y → All P xs → P y

@@ -1,16 +1,15 @@
 -- The least distances of rows meet them.
-use Rattle.std.proofs.Common.{◌≡◌, ◌⊎◌, inl, inr, ℕ, zero, suc, ◌+◌, ◌*◌, ◌^◌, ◌<◌, ◌≤◌, ℤ, pos, negsuc, neg_ℤ, ◌+ℤ◌, ◌≤ℤ◌, ◌<ℤ◌, List, [], ◌∷◌, ◌++◌, length, get_or, take, map, refl, sym, ap, ap₂, ◌∙◌, subst, add-one, FitsSigned, to_z, of_z, w64, arith}
-use Rattle.std.proofs.lemmas.Int.{ints, clamps, to_z-of_z}
+use Rattle.std.proofs.Common.{◌≡◌, inl, inr, ℕ, zero, suc, ◌+◌, ◌*◌, ◌^◌, ◌<◌, ◌≤◌, ℤ, pos, neg_ℤ, ◌+ℤ◌, ◌≤ℤ◌, ◌<ℤ◌, List, [], ◌∷◌, ◌++◌, length, get_or, take, map, refl, sym, ap, ap₂, ◌∙◌, subst, add-one, FitsSigned, to_z, of_z, w64, arith}
+use Rattle.std.proofs.lemmas.Int.{ints, to_z-of_z}
 use Rattle.std.proofs.lemmas.List.{take_all}
 use Rattle.std.specs.Int.{int_min}
-use Rattle.std.specs.List.{All}
-use Rattle.cyp_diff.specs.Distances.{none, distance, Meets}
-use Rattle.cyp_diff.specs.Closed.{IsClosed, AreBounds}
+use Rattle.cyp_diff.specs.Distances.{none, distance}
+use Rattle.cyp_diff.specs.Closed.{AreBounds}
 use Rattle.cyp_diff.specs.Solution.{least, at, IsLow, Solves}
 use Rattle.cyp_diff.proofs.Closing.{distance_least}
 use Rattle.cyp_diff.proofs.Coming.{length_map}
 use Rattle.cyp_diff.proofs.Mapping.{get_or-any}
-use Rattle.cyp_diff.proofs.Meeting.{AllMeet, solution_meets, least-step, least-low, least-reached, inside}
+use Rattle.cyp_diff.proofs.Meeting.{solution_meets, least-step, least-low, least-reached, inside}
 
 -- the least entry of a row, and at most 0
 abbrev pub row_least : List ℤ → ℤ

@@ -1,9 +1,9 @@
 -- Variables are collected, and found at their places.
-use Rattle.std.proofs.Common.{◌≡◌, ◌⊎◌, inl, inr, ℕ, zero, suc, ◌+◌, ◌<◌, ◌≤◌, Bool, true, false, cond, List, [], ◌∷◌, ◌++◌, length, get_or, take, drop, map, refl, sym, ap, ap₂, ◌∙◌, subst, add-one, append-nil, append_assoc, arith}
+use Rattle.std.proofs.Common.{◌≡◌, ℕ, zero, suc, ◌+◌, ◌<◌, Bool, true, false, cond, List, [], ◌∷◌, ◌++◌, length, get_or, take, refl, sym, ap, ap₂, ◌∙◌, add-one, append-nil, append_assoc, arith}
 use Rattle.std.specs.List.{flat_map}
 use Rattle.cyp_term.specs.declared.lit.Lit.{Lit}
 use Rattle.cyp_term.specs.declared.term.Var.{Var}
-use Rattle.cyp_term.specs.Terms.{lit_vars, lits_vars, var_eq, with_all_new, with_new}
+use Rattle.cyp_term.specs.Terms.{lit_vars, var_eq, with_all_new, with_new}
 use Rattle.cyp_diff.specs.Places.{further, var_place}
 
 pub with_all_new-join : {A : Type 0} (eq : A → A → Bool) (xs ys zs : List A) → with_all_new eq xs (ys ++ zs) ≡ with_all_new eq (with_all_new eq xs ys) zs

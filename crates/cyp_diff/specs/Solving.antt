@@ -2,8 +2,6 @@
 use Rattle.std.specs.Prelude.{◌≡◌, ℕ, suc, ℤ, pos, ◌-ℤ◌, cond, List, [], ◌∷◌, map, Option, Some, None, IsTrue}
 use Rattle.std.specs.List.{All}
 use Rattle.cyp_term.specs.declared.lit.Lit.{Lit}
-use Rattle.cyp_term.specs.declared.lit.Lit.TheVariants.{Eq, Ne, Le, Lt}
-use Rattle.cyp_term.specs.declared.term.Term.{Term}
 use Rattle.cyp_term.specs.declared.term.Var.{Var}
 use Rattle.cyp_term.specs.Integers.{is_int_lit}
 use Rattle.cyp_term.specs.Meaning.{AllTrue, Assignment, Satisfiable}

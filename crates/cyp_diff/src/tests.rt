@@ -5,7 +5,7 @@ ghost use Rattle.cyp_diff.specs.Solving.{AreInts};
 
 use crate::bounds::{Adding, Bounds};
 use crate::places::variables_of;
-use crate::solver::{Value, solve};
+use crate::solver::{Value, solve, solve_with};
 use cyp_term::{List, Lit, Sort, Term, Var};
 use std::alloc::Global;
 use std::test::Fail;
@@ -126,5 +126,26 @@ fn solves_in_a_range(rt: HostRuntime) -> Result<(), Fail> {
     assert!(rt; are_ints(&[]));
     let nothing = answer(alloc, &[])?.ok_or("no solution")?;
     assert_eq!(rt; nothing.len(), 0);
+    Ok(())
+}
+
+/// The answer for the literals before a place and those from it on, where the conditions hold.
+fn answer_with(alloc: Global, lits: &[Lit], place: usize) -> Result<Option<List<Value>>, Fail>
+    requires ints { AreInts lits.now }
+    requires within { place ≤ length lits.now }
+{
+    let vars = variables_of(alloc, lits)?;
+    if vars.len() > 32 {
+        return Err(Fail::new("too many variables"));
+    }
+    Ok(solve_with(alloc, &lits[..place], &lits[place..])?)
+}
+
+#[test]
+fn solves_both_lists_together(rt: HostRuntime) -> Result<(), Fail> {
+    let alloc = rt.alloc();
+    let both = [Lit::Le(number(1), int(0)), Lit::Le(int(0), number(0))];
+    assert!(rt; are_ints(&both));
+    assert!(rt; answer_with(alloc, &both, 1)?.is_none());
     Ok(())
 }

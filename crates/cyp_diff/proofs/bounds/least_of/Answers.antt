@@ -1,4 +1,4 @@
-use Rattle.std.proofs.Common.{rules, refl, pos, w64, get_or, FitsSigned, sym, arith}
+use Rattle.std.proofs.Common.{rules, pos, w64, get_or, FitsSigned, sym, arith}
 use Rattle.cyp_diff.proofs.Meeting.{least-none}
 use Rattle.cyp_diff.proofs.Solving.{least_step}
 use Rattle.cyp_diff.proofs.bounds.least_of.Goals as goal

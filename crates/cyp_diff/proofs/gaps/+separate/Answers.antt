@@ -1,11 +1,11 @@
-use Rattle.std.proofs.Common.{◌≡◌, ◌+◌, ◌*◌, ◌<◌, ℤ, List, length, rules, refl, sym, ap, subst, subst₂, ◌∙◌, arith, FitsSigned, to_z, of_z, w64}
+use Rattle.std.proofs.Common.{◌≡◌, ◌+◌, ◌*◌, ◌<◌, length, sym, ap, subst, subst₂, ◌∙◌, arith, to_z, of_z, w64}
 use Rattle.std.proofs.lemmas.Int.{to_z-of_z}
 use Rattle.std.proofs.lemmas.List.Edits.{length-remove}
 use Rattle.std.proofs.lemmas.Option.{slice_get_within}
 use Rattle.std.specs.Prelude.{IfOk}
 use Rattle.std.specs.List.{All, remove}
 use Rattle.cyp_diff.specs.Distances.{Within}
-use Rattle.cyp_diff.specs.Gaps.{IsGap, SeparateMeans, SideMeans}
+use Rattle.cyp_diff.specs.Gaps.{IsGap, SideMeans}
 use Rattle.cyp_diff.proofs.Separating.{All-item, All-rest, below_small, above_small, above_fits, below, above, side_added, found_below, then_above}
 use Rattle.cyp_diff.proofs.gaps.+separate.Goals as goal
 

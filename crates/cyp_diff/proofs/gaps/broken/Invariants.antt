@@ -1,4 +1,4 @@
-use Rattle.std.proofs.Common.{ℕ, ◌<◌, ℤ, get_or, pos}
+use Rattle.std.proofs.Common.{ℕ, ◌<◌, get_or}
 use Rattle.cyp_diff.specs.declared.gaps.Gap.{Gap}
 use Rattle.cyp_diff.specs.Gaps.{Apart}
 use Rattle.cyp_diff.specs.Solution.{at}

@@ -1,4 +1,4 @@
-use Rattle.std.proofs.Common.{sym, ◌∙◌, add-one, arith, ℕ, ◌<◌, length}
+use Rattle.std.proofs.Common.{sym, ◌∙◌, add-one, arith}
 use Rattle.cyp_diff.proofs.Vars.{place_found, place_none}
 use Rattle.cyp_diff.proofs.places.place_of.Goals as goal
 

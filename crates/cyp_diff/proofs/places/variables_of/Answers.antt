@@ -1,4 +1,3 @@
-use Rattle.std.proofs.Common.{refl}
 use Rattle.cyp_diff.proofs.Vars.{vars_more}
 use Rattle.cyp_diff.proofs.places.variables_of.Goals as goal
 

@@ -1,4 +1,4 @@
-use Rattle.std.proofs.Common.{ℤ, List, ap₂, sym, ◌∙◌}
+use Rattle.std.proofs.Common.{ap₂, sym, ◌∙◌}
 use Rattle.cyp_diff.specs.Solution.{at}
 use Rattle.cyp_diff.specs.Solving.{values_from}
 use Rattle.cyp_diff.proofs.Answering.{solved_some, solved_none}

@@ -1,4 +1,4 @@
-use Rattle.std.proofs.Common.{ℤ, pos, subst}
+use Rattle.std.proofs.Common.{pos, subst}
 use Rattle.cyp_diff.specs.Systems.{LeMeans}
 use Rattle.cyp_diff.proofs.Levels.{eq_means}
 use Rattle.cyp_diff.proofs.system.add_eq.Goals as goal

@@ -1,4 +1,3 @@
-use Rattle.cyp_diff.proofs.Truths.{all_true_from, all_true_to, among_variables, given_is, values_vars}
 use Rattle.cyp_diff.proofs.Levels.{difference, gap_means, is_gap}
 use Rattle.cyp_diff.proofs.system.gap_of.Goals as goal
 

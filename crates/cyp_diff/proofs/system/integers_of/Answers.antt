@@ -1,4 +1,4 @@
-use Rattle.std.proofs.Common.{◌∙◌, true, false, subst}
+use Rattle.std.proofs.Common.{◌∙◌, true, subst}
 use Rattle.cyp_diff.specs.Systems.{LitMeans}
 use Rattle.cyp_diff.proofs.Gathering.{says_more, says_none, says_all}
 use Rattle.cyp_diff.proofs.system.integers_of.Goals as goal
