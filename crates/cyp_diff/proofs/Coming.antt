@@ -11,7 +11,8 @@ use Rattle.cyp_diff.specs.Closed.{IsClosed, AreBounds}
 use Rattle.cyp_diff.specs.Adding.{AddMeans}
 use Rattle.cyp_diff.specs.declared.bounds.Adding.TheVariants.{Added}
 use Rattle.cyp_diff.proofs.Closing.{Adds, Comes, distance_least, closed_still}
-use Rattle.cyp_diff.proofs.Meeting.{AllMeet, meets_old, meets_added, meets_new, least, solution_meets}
+use Rattle.cyp_diff.proofs.Meeting.{AllMeet, meets_old, meets_added, meets_new, solution_meets}
+use Rattle.cyp_diff.specs.Solution.{least}
 use Rattle.cyp_diff.proofs.Mapping.{get_or-map_default, get_or-past}
 
 -- one entry: z is from a to b, u from a to i, w from j to b
@@ -149,5 +150,5 @@ adding_means rows i j c h li lj s k =
         λ m. let m' : AllMeet n x d' = subst (λ l. AllMeet l x d') same m in (meets_old n (distance rows) d' i j c a x m', meets_added n (distance rows) d' i j c a x m'),
         λ m. subst (λ l. AllMeet l x d') (sym same) (meets_new n (distance rows) d' i j c a x m.0 m.1),
       ),
-      ((λ p. least (d' p) n), subst (λ l. AllMeet l (λ p. least (d' p) n) d') (sym same) (solution_meets n d' (closed_still n (distance rows) d' i j c a))),
+      ((λ p. least (d' p) n), subst (λ l. AllMeet l (λ p. least (d' p) n) d') (sym same) (solution_meets n n d' (omega arith) (closed_still n (distance rows) d' i j c a))),
     )

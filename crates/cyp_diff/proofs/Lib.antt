@@ -6,3 +6,10 @@ pub mod Heights
 pub mod Mapping
 pub mod Meeting
 pub mod Reading
+pub mod Solving
+pub mod Separating
+pub mod Vars
+pub mod Levels
+pub mod Truths
+pub mod Gathering
+pub mod Answering

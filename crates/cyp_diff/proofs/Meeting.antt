@@ -1,9 +1,10 @@
 -- What integers meet before and after a bound is added, and integers that meet closed distances.
-use Rattle.std.proofs.Common.{◌≡◌, ◌⊎◌, inl, inr, ℕ, zero, suc, ◌<◌, ℤ, pos, ◌+ℤ◌, ◌≤ℤ◌, ◌<ℤ◌, refl, sym, ◌∙◌, subst, arith}
+use Rattle.std.proofs.Common.{◌≡◌, ◌⊎◌, inl, inr, ℕ, zero, suc, ◌<◌, ◌≤◌, ℤ, pos, ◌+ℤ◌, ◌≤ℤ◌, ◌<ℤ◌, refl, sym, ◌∙◌, subst, arith, ◌+◌, ap, add-one}
 use Rattle.std.proofs.lemmas.Int.{ints, clamps}
 use Rattle.std.specs.Int.{int_min}
 use Rattle.cyp_diff.specs.Distances.{none, Within}
 use Rattle.cyp_diff.specs.Closed.{IsClosed}
+use Rattle.cyp_diff.specs.Solution.{least}
 use Rattle.cyp_diff.proofs.Closing.{Adds, lower_fin, through_fin}
 
 -- the integers meet the distances between places below n
@@ -45,10 +46,13 @@ meets_none n d i j c li lj fin short x h k =
     let k' : x i ≤ℤ (x j +ℤ c) = k in
     absurd (omega (arith, ints))
 
--- the least of the first n values, and at most 0
-pub least : (ℕ → ℤ) → ℕ → ℤ
-least v zero = pos 0
-least v (suc n) = int_min (v n) (least v n)
+pub least-step : (v : ℕ → ℤ) (k : ℕ) → least v (k + 1) ≡ int_min (v k) (least v k)
+unfolding least
+least-step v k = ap (least v) (add-one k)
+
+pub least-none : (v : ℕ → ℤ) → least v 0 ≡ pos 0
+unfolding least
+least-none v = refl
 
 pub least-low : (v : ℕ → ℤ) (n : ℕ) → least v n ≤ℤ pos 0
 unfolding least
@@ -79,19 +83,26 @@ least-reached v (suc n) =
       | inr e ↦ elim (least-reached v n) [ inl f ↦ inl (e ∙ f) | inr f ↦ inr (f.0, omega (arith, f.1), e ∙ f.2) ]
     ]
 
+lt_or_le : (a n : ℕ) → (a < n) ⊎ (n ≤ a)
+lt_or_le a n = grind arith
+
+-- a distance that bounds is one to a place
+pub inside : (n : ℕ) (d : ℕ → ℕ → ℤ) → IsClosed n d → (b r : ℕ) → d b r <ℤ none → r < n
+inside n d h b r q = elim (lt_or_le r n) [ inl k ↦ k | inr k ↦ let e : d b r ≡ none = h.beyond b r k in absurd (omega (arith, ints)) ]
+
 -- the least of each row of closed distances
-pub solution_meets : (n : ℕ) (d : ℕ → ℕ → ℤ) → IsClosed n d → AllMeet n (λ a. least (d a) n) d
-solution_meets n d h a b la lb p =
-    let low : least (d b) n ≤ℤ pos 0 = least-low (d b) n in
-    elim (least-reached (d b) n) [
+pub solution_meets : (n m : ℕ) (d : ℕ → ℕ → ℤ) → n ≤ m → IsClosed n d → AllMeet n (λ a. least (d a) m) d
+solution_meets n m d le h a b la lb p =
+    let low : least (d b) m ≤ℤ pos 0 = least-low (d b) m in
+    elim (least-reached (d b) m) [
       | inl e ↦
-          let k : least (d a) n ≤ℤ d a b = least-bound (d a) n b lb in omega (arith, ints)
+          let k : least (d a) m ≤ℤ d a b = least-bound (d a) m b (omega arith) in omega (arith, ints)
       | inr e ↦
           let r : ℕ = e.0 in
-          let g : least (d b) n ≡ d b r = e.2 in
+          let g : least (d b) m ≡ d b r = e.2 in
           let q : d b r <ℤ none = omega (arith, ints) in
-          let t : (d a r <ℤ none) × (d a r ≤ℤ (d a b +ℤ d b r)) = h.through a b r la lb e.1 p q in
+          let t : (d a r <ℤ none) × (d a r ≤ℤ (d a b +ℤ d b r)) = h.through a b r la lb (inside n d h b r q) p q in
           let u : d a r ≤ℤ (d a b +ℤ d b r) = t.1 in
-          let k : least (d a) n ≤ℤ d a r = least-bound (d a) n r e.1 in
+          let k : least (d a) m ≤ℤ d a r = least-bound (d a) m r e.1 in
           omega (arith, ints)
     ]

@@ -1,4 +1,9 @@
 pub mod Adding
 pub mod Closed
 pub mod Distances
+pub mod Gaps
+pub mod Places
 pub mod Relaxing
+pub mod Solution
+pub mod Solving
+pub mod Systems

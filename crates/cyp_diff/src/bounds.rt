@@ -2,11 +2,12 @@ ghost use Rattle.std.specs.Prelude.{◌≡◌, ℕ, ℤ, ◌+◌, ◌<◌, ◌�
 ghost use Rattle.std.specs.List.{All};
 ghost use Rattle.cyp_lanes.specs.Rows.{IsModest};
 ghost use Rattle.cyp_diff.specs.Adding.{AddMeans};
-ghost use Rattle.cyp_diff.specs.Distances.{IsSmall, Meets};
+ghost use Rattle.cyp_diff.specs.Distances.{IsSmall, Meets, none};
+ghost use Rattle.cyp_diff.specs.Solution.{Solves, least};
 ghost use Rattle.cyp_diff.specs.Relaxing.{HasRoom, closer, lifted};
 
 use cyp_lanes::relax_row;
-use cyp_term::NoMemory;
+use cyp_term::{Copied, List, NoMemory};
 use std::alloc::Global;
 use std::marker::Model;
 
@@ -81,6 +82,16 @@ fn close(rows: &mut [[i64; WIDTH]], i: usize, from: &[i64; WIDTH], c: i64)
     }
 }
 
+fn least_of(row: &[i64; WIDTH]) -> i64
+    ensures { result ≡ least (λ k. slice_index_or row.now k none) 40 }
+{
+    let mut low = 0;
+    for k in 0..WIDTH {
+        low = row[k].min(low);
+    }
+    low
+}
+
 impl Bounds {
     /// No bounds between `n` places, from 1 to 33.
     pub fn new(alloc: Global, n: u8) -> Result<Bounds, NoMemory>
@@ -111,5 +122,26 @@ impl Bounds {
         let from = lift(&self.rows[j as usize]);
         close(&mut self.rows, i as usize, &from, c);
         Adding::Added
+    }
+
+    /// Integers that meet the bounds: the least distance from each place.
+    pub(crate) fn solution(&self, alloc: Global) -> Result<List<i64>, NoMemory>
+        ensures { IfOk result (λ xs. Solves self.now xs) }
+    {
+        let mut xs = Vec::new(alloc);
+        for row in self.rows.iter() {
+            xs.push(least_of(row))?;
+        }
+        Ok(List::from_vec(xs))
+    }
+}
+
+impl Copied for Bounds {
+    fn copy(&self, alloc: Global) -> Result<Bounds, NoMemory> {
+        let mut rows = Vec::new(alloc);
+        for row in self.rows.iter() {
+            rows.push(*row)?;
+        }
+        Ok(Bounds { rows })
     }
 }

@@ -2,8 +2,13 @@
 #![tactic(auto)]
 
 mod bounds;
+mod gaps;
+mod places;
+mod solver;
+mod system;
 
 pub use bounds::{Adding, Bounds};
+pub use solver::{Value, solve, solve_with};
 
 #[cfg(test)]
 mod tests;
