@@ -1,7 +1,7 @@
 ghost use Rattle.cyp_kernel.specs.NormalRules.{NodeRuleLaw, NormalRuleLaw};
 ghost use Rattle.cyp_kernel.specs.RuleLaws.{RuleLaw};
 ghost use Rattle.cyp_step.specs.declared.rule.Rule.{Rule};
-ghost use Rattle.cyp_step.specs.declared.rule.Rule.TheVariants.{ByAlloc, ByClose, ByEmp, ByFrame, ByFree, ByInconsistent, ByPick, ByRead, ByWrite};
+ghost use Rattle.cyp_step.specs.declared.rule.Rule.TheVariants.{ByAlloc, ByClose, ByEmp, ByFrame, ByFree, ByInconsistent, ByOpen, ByPick, ByRead, ByWrite};
 ghost use Rattle.cyp_term.specs.declared.term.Var.{Var};
 ghost use Rattle.std.specs.Prelude.{ℕ};
 
@@ -18,5 +18,6 @@ pub fn rules_are_sound_in_normal_form()
     ensures free { (i : ℕ) → NormalRuleLaw (ByFree i) }
     ensures alloc { NormalRuleLaw ByAlloc }
     ensures pick { (v : Var) → NormalRuleLaw (ByPick v) }
+    ensures open { (i : ℕ) → NormalRuleLaw (ByOpen i) }
     ensures close { (c : ℕ) → NormalRuleLaw (ByClose c) }
 {}

@@ -5,11 +5,12 @@ use Rattle.cyp_kernel.proofs.RuleEmp.{by_emp}
 use Rattle.cyp_kernel.proofs.RuleFrame.{by_frame}
 use Rattle.cyp_kernel.proofs.RuleFree.{by_free}
 use Rattle.cyp_kernel.proofs.RuleInconsistent.{by_inconsistent}
+use Rattle.cyp_kernel.proofs.RuleOpen.{by_open}
 use Rattle.cyp_kernel.proofs.RulePick.{by_pick}
 use Rattle.cyp_kernel.proofs.RuleRead.{by_read}
 use Rattle.cyp_kernel.proofs.RuleWrite.{by_write}
 use Rattle.cyp_kernel.proofs.normal_rules.rules_are_sound_in_normal_form.Goals as goal
-use Rattle.cyp_step.specs.declared.rule.Rule.TheVariants.{ByAlloc, ByClose, ByEmp, ByFrame, ByFree, ByInconsistent, ByPick, ByRead, ByWrite}
+use Rattle.cyp_step.specs.declared.rule.Rule.TheVariants.{ByAlloc, ByClose, ByEmp, ByFrame, ByFree, ByInconsistent, ByOpen, ByPick, ByRead, ByWrite}
 
 pub returns-clause-each : goal.returns-clause-each
 returns-clause-each c = through_node
@@ -43,3 +44,6 @@ returns-clause-pick c v = through_normal (ByPick v) (by_pick v)
 
 pub returns-clause-close : goal.returns-clause-close
 returns-clause-close c k = through_normal (ByClose k) (by_close k)
+
+pub returns-clause-open : goal.returns-clause-open
+returns-clause-open c i = through_normal (ByOpen i) (by_open i)
