@@ -12,6 +12,7 @@ pub mod CallRuns
 pub mod ChunkOrder
 pub mod ClauseAgrees
 pub mod ClosedPrograms
+pub mod Dependence
 pub mod Examples
 mod ExamplesPrograms
 pub mod Folded

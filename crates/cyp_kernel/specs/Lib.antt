@@ -3,6 +3,7 @@ pub mod Bound
 pub mod Companions
 pub mod Compile
 pub mod Correct
+pub mod Dependence
 pub mod Laws
 pub mod Meaning
 pub mod Meets

@@ -13,7 +13,8 @@ pub use laws::{
 };
 pub use meaning::{
     formed_goal_is_ready, normal_form_is_ready, normal_form_is_steady, normal_form_keeps_bodies,
-    normal_form_keeps_meaning, numbering_keeps_meaning, sorts_are_needed, steps_keep_meaning,
+    normal_form_keeps_meaning, numbering_keeps_meaning, side_depends_on_its_variables,
+    sorts_are_needed, steps_keep_meaning,
 };
 pub use normal_rules::rules_are_sound_in_normal_form;
 pub use rules::{flat_rules_are_sound, unfolding_rules_are_sound};

@@ -1,3 +1,4 @@
+ghost use Rattle.cyp_kernel.specs.Dependence.{SideDependsOnVars};
 ghost use Rattle.cyp_kernel.specs.Meaning.{
   FormedIsReady,
   NormalIsReady,
@@ -10,6 +11,11 @@ ghost use Rattle.cyp_kernel.specs.Meaning.{
   TidyingKeeps,
 };
 ghost use Rattle.cyp_kernel.specs.NormalSteady.{FormedIsSteady, NormalBodies, NormalIsSteady, SteadyIsReady};
+
+/// Law: a side of a goal depends on the values of its variables alone, a set's by its members.
+pub fn side_depends_on_its_variables()
+    ensures { SideDependsOnVars }
+{}
 
 /// Law: solving, tidying and pruning keep the meaning of a node: each heap of the precondition is one of
 /// the new precondition at the same values, and each heap of the new postcondition one of the old.
