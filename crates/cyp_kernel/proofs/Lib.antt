@@ -16,6 +16,7 @@ pub mod Examples
 mod ExamplesPrograms
 pub mod Folded
 pub mod ForgetVars
+pub mod FoundMatch
 pub mod FramePairs
 pub mod GoalFacts
 pub mod GuardTests
@@ -24,6 +25,8 @@ pub mod HeapCells
 pub mod HeapParts
 pub mod HeapRemoved
 pub mod LowerMeasures
+pub mod MendedCells
+pub mod MendsFound
 pub mod NamedValues
 pub mod NewNumber
 pub mod NormalBody

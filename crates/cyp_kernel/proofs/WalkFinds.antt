@@ -87,7 +87,7 @@ not_new : (c : Bool) (o : Option Term) (e : Bool) (w : Var) → c ≡ (e || is_s
 not_new true o e w p f h = is_some_out o (sym (p ∙ ap (λ (b : Bool). b || is_some o) f))
 not_new false o e w p f h = absurd (none-some w (sym h))
 
-bound_base : (exist : List Var) (by : Subst) (b : Option Var)
+pub bound_base : (exist : List Var) (by : Subst) (b : Option Var)
     → ◌≡◌ {A = Option Var} (elim b [ None ↦ None | Some v ↦ cond (var_in v exist || is_some (int_image by.ints v)) None (Some v) ]) None
     → Each (λ v. var_in v exist ≡ false) (base_vars b) → IsBound by b
 bound_base exist by None e f = tt
@@ -217,7 +217,7 @@ module _ (exist : List Var) (w : Walk) where
   step_good (Content k t r) f = content_step k t r f (binds exist w.by t) refl
   step_good (OfSet x r) f = set_by x r f (lone_of_parts x.vars x.elems) refl
 
-walk_grows : (exist : List Var) (w : Walk) (ps : List Position) → AllByRecursion (IsFreeOf exist) ps → Grows w (walk exist w ps)
+pub walk_grows : (exist : List Var) (w : Walk) (ps : List Position) → AllByRecursion (IsFreeOf exist) ps → Grows w (walk exist w ps)
 walk_grows exist w [] f = grows_self w
 walk_grows exist w (p ∷ ps) f =
     grows_trans w (walk_step exist w p) (walk exist (walk_step exist w p) ps) (step_good exist w p f.0).grows (walk_grows exist (walk_step exist w p) ps f.1)
