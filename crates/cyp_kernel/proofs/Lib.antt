@@ -39,6 +39,7 @@ pub mod OldVars
 pub mod Opened
 pub mod OpenedHolds
 pub mod PairedChunks
+pub mod PairsHold
 pub mod PairsOut
 pub mod ParamsAgree
 pub mod PassedVars
