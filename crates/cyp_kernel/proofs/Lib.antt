@@ -9,6 +9,7 @@ pub mod BoundEquation
 pub mod BoundGrowth
 pub mod BySort
 pub mod CallRuns
+pub mod CallStart
 pub mod ChunkOrder
 pub mod ClauseAgrees
 pub mod ClosedPrograms
@@ -18,6 +19,7 @@ pub mod Folded
 pub mod ForgetVars
 pub mod FoundMatch
 pub mod FramePairs
+pub mod FreePositions
 pub mod GoalFacts
 pub mod GuardTests
 pub mod HeapAdded

@@ -12,3 +12,4 @@ pub mod NormalSteady
 pub mod RuleLaws
 pub mod Statements
 pub mod Steady
+pub mod SteadyLinks
