@@ -48,11 +48,11 @@ one_bound : (m by more : Subst) (v : Var) (b : Bool)
 one_bound m by more v false e = int_bound m by more v (is_some (int_image by.ints v)) e
 one_bound m by more v true e = set_bound m by more v (is_some (set_image by.sets v)) e
 
-and_then_some : {A B : Type 0} (f : A → Option B) (o : Option A) (r : B) → option_and_then f o ≡ Some r → (x : A) × (o ≡ Some x) × (f x ≡ Some r)
+pub and_then_some : {A B : Type 0} (f : A → Option B) (o : Option A) (r : B) → option_and_then f o ≡ Some r → (x : A) × (o ≡ Some x) × (f x ≡ Some r)
 and_then_some f None r e = absurd (none-some r e)
 and_then_some f (Some x) r e = (x, refl, e)
 
-all_kept : (m by more : Subst) (vs : List Var) → all_bound m by vs ≡ Some more → Extends by more
+pub all_kept : (m by more : Subst) (vs : List Var) → all_bound m by vs ≡ Some more → Extends by more
 all_kept m by more [] e = subst (λ (x : Subst). Extends by x) (same_Some by more e) (extends_self by)
 all_kept m by more (v ∷ vs) e =
     let a = and_then_some (λ (b : Subst). all_bound m b vs) (bound_by_map m by v) more e in

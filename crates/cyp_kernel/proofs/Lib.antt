@@ -7,6 +7,7 @@ pub mod BodyRuns
 pub mod BoundAlone
 pub mod BoundEquation
 pub mod BoundGrowth
+pub mod BoundImages
 pub mod BySort
 pub mod CallRuns
 pub mod CallStart
