@@ -32,7 +32,7 @@ int_later : (c : Bool) (r y : Term) (o more : Option Term) (Q : Type 0) → (mor
 int_later true r y o more Q f e = inl e
 int_later false r y o more Q f e = f e
 
-int_back : (bs : List IntBind) (v : Var) (t : Term) (x : Var) (y : Term) → int_image (bs ++ record { var = v; to = t } ∷ []) x ≡ Some y → (int_image bs x ≡ Some y) ⊎ ((v ≡ x) × (t ≡ y))
+pub int_back : (bs : List IntBind) (v : Var) (t : Term) (x : Var) (y : Term) → int_image (bs ++ record { var = v; to = t } ∷ []) x ≡ Some y → (int_image bs x ≡ Some y) ⊎ ((v ≡ x) × (t ≡ y))
 int_back [] v t x y e = int_here (var_eq v x) t y ((v ≡ x) × (t ≡ y)) (λ p q. ((Decides-var_eq v x).0 p, q)) e
 int_back (b ∷ bs) v t x y e =
     int_later (var_eq b.var x) b.to y (int_image bs x) (int_image (bs ++ record { var = v; to = t } ∷ []) x) ((v ≡ x) × (t ≡ y)) (int_back bs v t x y) e
@@ -45,7 +45,7 @@ set_later : (c : Bool) (r y : SetTerm) (o more : Option SetTerm) (Q : Type 0) �
 set_later true r y o more Q f e = inl e
 set_later false r y o more Q f e = f e
 
-set_back : (bs : List SetBind) (v : Var) (t : SetTerm) (x : Var) (y : SetTerm) → set_image (bs ++ record { var = v; to = t } ∷ []) x ≡ Some y → (set_image bs x ≡ Some y) ⊎ ((v ≡ x) × (t ≡ y))
+pub set_back : (bs : List SetBind) (v : Var) (t : SetTerm) (x : Var) (y : SetTerm) → set_image (bs ++ record { var = v; to = t } ∷ []) x ≡ Some y → (set_image bs x ≡ Some y) ⊎ ((v ≡ x) × (t ≡ y))
 set_back [] v t x y e = set_here (var_eq v x) t y ((v ≡ x) × (t ≡ y)) (λ p q. ((Decides-var_eq v x).0 p, q)) e
 set_back (b ∷ bs) v t x y e =
     set_later (var_eq b.var x) b.to y (set_image bs x) (set_image (bs ++ record { var = v; to = t } ∷ []) x) ((v ≡ x) × (t ≡ y)) (set_back bs v t x y) e

@@ -31,6 +31,7 @@ pub mod LowerMeasures
 pub mod MendedCells
 pub mod MendsFound
 pub mod NamedValues
+pub mod NewExist
 pub mod NewNumber
 pub mod NormalBody
 pub mod NormalMeaning
