@@ -9,6 +9,7 @@ pub mod BoundEquation
 pub mod BoundGrowth
 pub mod BoundImages
 pub mod BySort
+pub mod CallEnd
 pub mod CallRuns
 pub mod CallStart
 pub mod ChunkOrder
@@ -18,6 +19,7 @@ pub mod Examples
 mod ExamplesPrograms
 pub mod Folded
 pub mod ForgetVars
+pub mod FoundImages
 pub mod FoundMatch
 pub mod FramePairs
 pub mod FreePositions
