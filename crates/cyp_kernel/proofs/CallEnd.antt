@@ -1,5 +1,5 @@
 -- After a call the premise's precondition holds.
-use Rattle.std.proofs.Common.{◌≡◌, refl, sym, ap, ◌∙◌, ℕ, zero, suc, ◌==◌, ◌⊎◌, Bool, true, false, not, cond, List, [], ◌∷◌, ◌++◌, append-nil, flat_map, map, filter, Option, Some, None, inl, inr, subst}
+use Rattle.std.proofs.Common.{◌≡◌, refl, sym, ap, ◌∙◌, ℕ, zero, suc, ◌==◌, ◌⊎◌, Bool, true, false, not, ◌&&◌, cond, List, [], ◌∷◌, ◌++◌, append-nil, flat_map, map, filter, Option, Some, None, inl, inr, subst}
 use Rattle.std.specs.Prelude.{slice_get}
 use Rattle.std.specs.List.{list_all, list_any}
 use Rattle.std.proofs.lemmas.Bool.{and_from, cond_both, both_ways, not-true, false≢true, false_from_ne_true}
@@ -58,7 +58,7 @@ use Rattle.cyp_unify.specs.declared.found.Match.{Match}
 set_same : (s u : Assignment) (x : SetTerm) → set_fits is_number_var is_set_var x ≡ true → Each (AgreeAt s u) (set_vars x) → SameMembers (set_value s x) (set_value u x)
 set_same s u x f e =
     let c : Chunk = Inst (record { pred = 0; args = SetArg x ∷ []; card = None; tag = 0 }) in
-    (same_by_vars s u c (and_from (list_all (λ (b : Bool). b) (set_fits is_number_var is_set_var x ∷ [])) true (and_from (set_fits is_number_var is_set_var x) true f refl) refl)
+    (same_by_vars s u c (and_from (set_fits is_number_var is_set_var x && true) true (and_from (set_fits is_number_var is_set_var x) true f refl) refl)
     (λ v k. e v (subst (Among v) (append-nil (set_vars x ++ []) ∙ append-nil (set_vars x)) k))).1.0
 
 same_tags : (a : Var) (tag k : ℕ) (cs : List Chunk) → with_tags (Some a) tag k cs ≡ with_new_cards tag k cs
@@ -153,3 +153,54 @@ module _ (n : Node) (steady : IsSteady n) (i : ℕ) (l : Link) (at : slice_get n
         by_test : (b : Bool) → var_in v exist ≡ b → AgreeAt (under by values) t v
         by_test true e = exist_agrees values t next exist f.by inner.exist_differs unbound (new_are next ms s t exist) v (among_from_in v exist e)
         by_test false e = outside_agrees v (is_set_var v) refl (bound_outside v k e) (agree v e)
+
+    -- ---- the premise's precondition
+
+    -- what the companion leaves
+    abbrev pub left : ℕ → List Chunk
+    left tag = with_new_cards tag next.cards (map (apply_chunk by) l.goal.post.chunks)
+
+    new_side : (tag : ℕ) (g : Store) → SideHolds n.preds t l.goal.pure_post l.goal.post.chunks g ms → AllTrue values (map (apply_lit by) l.goal.pure_post) × AllHold inst values (left tag) g
+    new_side tag g side =
+        let d : Goal = l.goal in
+        let sorted = sorted_goal (unlinked n.preds d) inner in
+        let cs : List Chunk = map (apply_chunk by) d.post.chunks in
+        let agrees = λ (v : Var) (k : Among v (goal_vars d)). agree_sym v.sort (under by values) t v (inner_agrees v k) in
+        let here = side_by_vars t (under by values) n.preds d.pure_post d.post.chunks g ms sorted.pure_post sorted.post
+            (λ v k. agrees v (Among-right v (d.program ++ chunks_vars d.pre.chunks ++ chunks_vars d.post.chunks ++ lits_vars d.pure_pre) (lits_vars d.pure_post) k))
+            (λ v k. agrees v (Among-left v (d.program ++ chunks_vars d.pre.chunks ++ chunks_vars d.post.chunks ++ lits_vars d.pure_pre) (lits_vars d.pure_post)
+            (Among-left v (d.program ++ chunks_vars d.pre.chunks ++ chunks_vars d.post.chunks) (lits_vars d.pure_pre) (Among-right v (d.program ++ chunks_vars d.pre.chunks) (chunks_vars d.post.chunks) k)))) side in
+        let chunks = (apply_chunks_law n.preds by values d.post.chunks g ms).1 here.1 in
+        (
+          (lits_applied by values d.pure_post).0 here.0,
+          subst (λ (xs : List Chunk). AllHold inst values xs g) (same_tags (card_var 0) tag next.cards cs)
+          (ms, tagged inst values (Some (card_var 0)) tag next.cards cs g ms chunks, cards_tagged inst values (card_var 0) tag next.cards cs g ms chunks (cards_are next 0 0 ms s (listed t exist))),
+        )
+
+    old_side : (rest : Store) → AllHold inst s (chunks_beside 0 ks (pre_of n)) rest → AllHold inst values (chunks_beside 0 ks (pre_of n)) rest
+    old_side rest a =
+        let old = old_parts n in
+        let beside : List Chunk = chunks_beside 0 ks (pre_of n) in
+        let side = side_by_vars s values n.preds [] beside rest a.0 refl
+            (each_from chunk_sorted beside (λ x y. each_at chunk_sorted x (pre_of n) (sorted_goal n steady).pre (beside_among 0 ks (pre_of n) x y)))
+            (λ v x. absurd x)
+            (λ v x. let c = flat_out chunk_vars v beside x in old_agree v (old.pre v (flat_in chunk_vars v c.0 (pre_of n) (beside_among 0 ks (pre_of n) c.0 c.1) c.2)))
+            (tt, a.1, a.2) in
+        (a.0, side.1, side.2)
+
+    -- what was kept and what the companion leaves make up the premise's precondition
+    pub after_holds : (tag : ℕ) (g large rest : Store) → SideHolds n.preds t l.goal.pure_post l.goal.post.chunks g ms → AllHold inst s (chunks_beside 0 ks (pre_of n)) rest → IsUnion large g rest
+        → AllTrue s n.goal.pure_pre
+        → (hs : List ℕ) × SideHolds n.preds values (n.goal.pure_pre ++ map (apply_lit by) l.goal.pure_post) (put_all (chunks_beside 0 ks (pre_of n)) (left tag)) large hs
+    after_holds tag g large rest side others union known =
+        let new = new_side tag g side in
+        let whole = put_all_holds inst values (chunks_beside 0 ks (pre_of n)) (left tag) large g rest union new.1 (old_side rest others) in
+        let old = old_parts n in
+        let kept = lits_by_vars s values n.goal.pure_pre (sorted_goal n steady).pure_pre (λ v k. old_agree v (old.pure_pre v k)) known in
+        (whole.0, (true_join values n.goal.pure_pre (map (apply_lit by) l.goal.pure_post) kept new.0, whole.1, whole.2))
+
+    pub program_kept : (v : Var) → var_in v n.goal.program ≡ true → s.number v ≡ values.number v
+    program_kept v e = number_old next 0 0 ms s (listed t exist) v ((old_parts n).program v (among_from_in v n.goal.program e))
+
+    pub parts_kept : EachPart (AgreeAt s values) n
+    parts_kept = each_part (AgreeAt s values) n (λ v x. old_agree v (old_vars n v x))

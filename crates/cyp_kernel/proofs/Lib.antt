@@ -51,6 +51,7 @@ pub mod ParamsAgree
 pub mod PassedVars
 pub mod PlainCards
 pub mod RuleAlloc
+pub mod RuleCall
 pub mod RuleClose
 pub mod RuleEmp
 pub mod RuleExamples

@@ -1,5 +1,6 @@
 pub mod Accepted
 pub mod Bound
+pub mod CallLaw
 pub mod Companions
 pub mod Compile
 pub mod Correct

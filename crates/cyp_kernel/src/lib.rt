@@ -13,4 +13,4 @@ pub use meaning::{
     formed_goal_is_ready, normal_form_is_ready, normal_form_is_steady, normal_form_keeps_bodies,
     normal_form_keeps_meaning, numbering_keeps_meaning, sorts_are_needed, steps_keep_meaning,
 };
-pub use rules::{flat_rules_are_sound, unfolding_rules_are_sound};
+pub use rules::{call_rule_is_sound, flat_rules_are_sound, unfolding_rules_are_sound};
