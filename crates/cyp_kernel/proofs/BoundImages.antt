@@ -65,11 +65,6 @@ module _ (P : Var → Type 0) where
   GoodRight (Content k t r) = GoodTerm r
   GoodRight (OfSet x r) = GoodSet r
 
-  -- each image is good
-  pub record GoodMap (m : Subst) : Type 0 where
-    pub ints : (v : Var) (t : Term) → int_image m.ints v ≡ Some t → GoodTerm t
-    pub sets : (v : Var) (u : SetTerm) → set_image m.sets v ≡ Some u → GoodSet u
-
   module _ (exist : List Var) where
     -- each image is good, and no existential is bound
     pub record GoodBinds (by : Subst) : Type 0 where
@@ -144,32 +139,34 @@ module _ (P : Var → Type 0) where
 
     -- ---- and the map
 
-    module _ (m : Subst) (map_good : GoodMap m) where
-      int_map : (by more : Subst) (v : Var) → GoodBinds by → var_in v exist ≡ false → (b : Bool)
-          → elim b [ true ↦ Some by | false ↦ option_map (add_int by v) (int_image m.ints v) ] ≡ Some more → GoodBinds more
-      int_map by more v g f true e = subst (λ (x : Subst). GoodBinds x) (same_Some by more e) g
-      int_map by more v g f false e =
-          let a = mapped_some (add_int by v) (int_image m.ints v) more e in subst (λ (x : Subst). GoodBinds x) a.2 (add_int_good by v a.0 g (map_good.ints v a.0 a.1) f)
+    module _ (m : Subst) (map_good : GoodBinds m) where
+      int_map : (by more : Subst) (v : Var) → GoodBinds by → (b : Bool) → elim b [ true ↦ Some by | false ↦ option_map (add_int by v) (int_image m.ints v) ] ≡ Some more → GoodBinds more
+      int_map by more v g true e = subst (λ (x : Subst). GoodBinds x) (same_Some by more e) g
+      int_map by more v g false e =
+          let a = mapped_some (add_int by v) (int_image m.ints v) more e in
+          let image = map_good.ints v a.0 a.1 in
+          subst (λ (x : Subst). GoodBinds x) a.2 (add_int_good by v a.0 g image.0 image.1)
 
-      set_map : (by more : Subst) (v : Var) → GoodBinds by → var_in v exist ≡ false → (b : Bool)
-          → elim b [ true ↦ Some by | false ↦ option_map (add_set by v) (set_image m.sets v) ] ≡ Some more → GoodBinds more
-      set_map by more v g f true e = subst (λ (x : Subst). GoodBinds x) (same_Some by more e) g
-      set_map by more v g f false e =
-          let a = mapped_some (add_set by v) (set_image m.sets v) more e in subst (λ (x : Subst). GoodBinds x) a.2 (add_set_good by v a.0 g (map_good.sets v a.0 a.1) f)
+      set_map : (by more : Subst) (v : Var) → GoodBinds by → (b : Bool) → elim b [ true ↦ Some by | false ↦ option_map (add_set by v) (set_image m.sets v) ] ≡ Some more → GoodBinds more
+      set_map by more v g true e = subst (λ (x : Subst). GoodBinds x) (same_Some by more e) g
+      set_map by more v g false e =
+          let a = mapped_some (add_set by v) (set_image m.sets v) more e in
+          let image = map_good.sets v a.0 a.1 in
+          subst (λ (x : Subst). GoodBinds x) a.2 (add_set_good by v a.0 g image.0 image.1)
 
-      one_map : (by more : Subst) (v : Var) → GoodBinds by → var_in v exist ≡ false → (b : Bool)
+      one_map : (by more : Subst) (v : Var) → GoodBinds by → (b : Bool)
           → elim b [
             | false ↦ elim (is_some (int_image by.ints v)) [ true ↦ Some by | false ↦ option_map (add_int by v) (int_image m.ints v) ]
             | true ↦ elim (is_some (set_image by.sets v)) [ true ↦ Some by | false ↦ option_map (add_set by v) (set_image m.sets v) ]
           ] ≡ Some more → GoodBinds more
-      one_map by more v g f false e = int_map by more v g f (is_some (int_image by.ints v)) e
-      one_map by more v g f true e = set_map by more v g f (is_some (set_image by.sets v)) e
+      one_map by more v g false e = int_map by more v g (is_some (int_image by.ints v)) e
+      one_map by more v g true e = set_map by more v g (is_some (set_image by.sets v)) e
 
-      pub all_good : (by more : Subst) (vs : List Var) → GoodBinds by → Each (λ v. var_in v exist ≡ false) vs → all_bound m by vs ≡ Some more → GoodBinds more
-      all_good by more [] g f e = subst (λ (x : Subst). GoodBinds x) (same_Some by more e) g
-      all_good by more (v ∷ vs) g f e =
+      pub all_good : (by more : Subst) (vs : List Var) → GoodBinds by → all_bound m by vs ≡ Some more → GoodBinds more
+      all_good by more [] g e = subst (λ (x : Subst). GoodBinds x) (same_Some by more e) g
+      all_good by more (v ∷ vs) g e =
           let a = and_then_some (λ (b : Subst). all_bound m b vs) (bound_by_map m by v) more e in
-          all_good a.0 more vs (one_map by a.0 v g (f v (inl refl)) (is_set_var v) a.1) (λ x k. f x (inr k)) a.2
+          all_good a.0 more vs (one_map by a.0 v g (is_set_var v) a.1) a.2
 
 -- ---- each variable is bound
 

@@ -24,7 +24,7 @@ use Rattle.cyp_kernel.proofs.BoundImages.{BoundBy, GoodBinds, all_are_bound, all
 use Rattle.cyp_kernel.proofs.BySort.{agree_from, number_at, same_members}
 use Rattle.cyp_kernel.proofs.ChunkOrder.{AllHold, put_all_holds}
 use Rattle.cyp_kernel.proofs.ForgetVars.{agree_sym, among_from_in, in_from_among}
-use Rattle.cyp_kernel.proofs.FoundImages.{link_map_good, rights_good}
+use Rattle.cyp_kernel.proofs.FoundImages.{ExistFree, link_map_good, rights_good}
 use Rattle.cyp_kernel.proofs.FoundMatch.{Found, found}
 use Rattle.cyp_kernel.proofs.FreePositions.{positions_free}
 use Rattle.cyp_kernel.proofs.GoalFacts.{true_join}
@@ -80,7 +80,7 @@ beside_among j ks (c ∷ cs) x k =
 -- ---- the node and its companion
 
 module _ (n : Node) (steady : IsSteady n) (i : ℕ) (l : Link) (at : slice_get n.links i ≡ Some l) (inner : IsSteady (unlinked n.preds l.goal))
-    (own : (v : Var) → var_in v (flat_map term_vars l.own) ≡ true → var_in v l.goal.exist ≡ false) (ks : List ℕ) (f : Match) (match : match_at n l ks ≡ Some f) where
+    (free : ExistFree l.map l.goal.exist ≡ true) (ks : List ℕ) (f : Match) (match : match_at n l ks ≡ Some f) where
   abbrev inst : Instances
   inst = InstanceHolds n.preds
 
@@ -93,13 +93,6 @@ module _ (n : Node) (steady : IsSteady n) (i : ℕ) (l : Link) (at : slice_get n
   abbrev outside : List Var
   outside = filter (λ v. not (var_in v exist)) (goal_vars l.goal)
 
-  bound_free : Each (λ v. var_in v exist ≡ false) (to_bind l)
-  bound_free v k = by_side (Among-cases v outside (flat_map term_vars l.own) (without_repeats_out var_eq Decides-var_eq v (outside ++ flat_map term_vars l.own) k))
-    where
-      by_side : Among v outside ⊎ Among v (flat_map term_vars l.own) → var_in v exist ≡ false
-      by_side (inl m) = not-true (var_in v exist) (filter_out (λ v. not (var_in v exist)) v (goal_vars l.goal) m).1
-      by_side (inr m) = own v (in_from_among v (flat_map term_vars l.own) m)
-
   bound_outside : (v : Var) → Among v (goal_vars l.goal) → var_in v exist ≡ false → BoundBy f.by v (is_set_var v)
   bound_outside v k e =
       all_are_bound l.map (walk exist no_walk (found n l ks f match).steps).by f.by (to_bind l) (found n l ks f match).bound v
@@ -110,10 +103,10 @@ module _ (n : Node) (steady : IsSteady n) (i : ℕ) (l : Link) (at : slice_get n
   binds_good =
       let o = found n l ks f match in
       let old = old_parts n in
-      all_good (IsOld next) exist l.map (link_map_good (IsOld next) n steady old.links i l at) (walk exist no_walk o.steps).by f.by (to_bind l)
+      all_good (IsOld next) exist l.map (link_map_good (IsOld next) n steady old.links i l at free) (walk exist no_walk o.steps).by f.by (to_bind l)
       (found_good (IsOld next) exist o.steps (positions_free exist (pre_of n) l.goal.pre.chunks ks o.steps o.paired (pre_apart (unlinked n.preds l.goal) inner))
       (rights_good (IsOld next) (pre_of n) l.goal.pre.chunks ks o.steps o.paired (sorted_goal n steady).pre old.pre))
-      bound_free o.bound
+      o.bound
 
   unbound : (v : Var) → Among v exist → IsUnbound f.by v
   unbound v k =

@@ -1,8 +1,8 @@
 -- The present sides of a match's positions, and the images of a companion's map, are of old variables.
 use Rattle.std.proofs.Common.{◌≡◌, refl, sym, ap, ℕ, Bool, true, false, cond, ◌&&◌, List, [], ◌∷◌, ◌++◌, flat_map, Option, Some, None, inl, inr, subst}
-use Rattle.std.specs.Prelude.{slice_get}
+use Rattle.std.specs.Prelude.{is_none, slice_get}
 use Rattle.std.specs.List.{AllByRecursion, list_all}
-use Rattle.std.proofs.lemmas.Bool.{and_parts}
+use Rattle.std.proofs.lemmas.Bool.{and_parts, false_from_ne_true, false≢true}
 use Rattle.std.proofs.lemmas.Option.{none-some, same_Some}
 use Rattle.cyp_goal.proofs.EachVar.{Each, first, link_vars, second}
 use Rattle.cyp_goal.specs.Raw.{arg_fits, goal_fits, images_fit, link_fits, set_fits, term_fits}
@@ -15,12 +15,13 @@ use Rattle.cyp_heap.specs.declared.chunk.Chunk.TheVariants.{Block, Cell, Inst}
 use Rattle.cyp_heap.specs.declared.goal.Link.{Link}
 use Rattle.cyp_heap.specs.declared.goal.Node.{Node}
 use Rattle.cyp_kernel.proofs.AgreeVars.{chunk_sorted, is_number_var}
-use Rattle.cyp_kernel.proofs.BoundImages.{GoodMap, GoodRight}
+use Rattle.cyp_kernel.proofs.BoundImages.{GoodBinds, GoodRight}
+use Rattle.cyp_kernel.proofs.ForgetVars.{among_from_in}
 use Rattle.cyp_kernel.proofs.PairedChunks.{ArePaired}
 use Rattle.cyp_kernel.proofs.SteadyParts.{chunk_sorted_at, chunk_vars_among, slice_get-among, sorted_goal}
 use Rattle.cyp_kernel.specs.Steady.{IsSteady}
 use Rattle.cyp_term.proofs.Lists.{Among, Among-left, Among-right, Every-append, each_at, flat_in}
-use Rattle.cyp_term.specs.Terms.{int_image, is_set_var, set_image, set_vars, term_vars, var_eq}
+use Rattle.cyp_term.specs.Terms.{int_image, is_set_var, set_image, set_vars, term_vars, var_eq, var_in}
 use Rattle.cyp_term.specs.declared.lit.SetTerm.{SetTerm}
 use Rattle.cyp_term.specs.declared.subst.IntBind.{IntBind}
 use Rattle.cyp_term.specs.declared.subst.SetBind.{SetBind}
@@ -49,9 +50,17 @@ set_image_at [] v t e = absurd (none-some t e)
 set_image_at (b ∷ bs) v t e =
     set_image_by (var_eq b.var v) b.to t (set_image bs v) ((a : SetBind) × Among a (b ∷ bs) × (a.to ≡ t)) (λ p. (b, inl refl, p)) (λ p. let r = set_image_at bs v t p in (r.0, inr r.1, r.2)) e
 
+-- no existential has an image in the map
+abbrev pub ExistFree : Subst → List Var → Bool
+ExistFree m exist = list_all (λ v. is_none (int_image m.ints v) && is_none (set_image m.sets v)) exist
+
+no_image : {A : Type 0} (o : Option A) (x : A) → is_none o ≡ true → o ≡ Some x → ⊥
+no_image None x n e = none-some x e
+no_image (Some y) x n e = false≢true n
+
 module _ (P : Var → Type 0) where
-  map_is_good : (m : Subst) → images_fit is_number_var is_set_var m ≡ true → Each P (image_vars m) → GoodMap P m
-  map_is_good m f e =
+  map_is_good : (exist : List Var) (m : Subst) → ExistFree m exist ≡ true → images_fit is_number_var is_set_var m ≡ true → Each P (image_vars m) → GoodBinds P exist m
+  map_is_good exist m free f e =
       let both = and_parts (list_all (λ (b : IntBind). term_fits is_number_var b.to) m.ints) (list_all (λ (b : SetBind). set_fits is_number_var is_set_var b.to) m.sets) f in
       let ints : List Var = flat_map (λ (b : IntBind). term_vars b.to) m.ints in
       let sets : List Var = flat_map (λ (b : SetBind). set_vars b.to) m.sets in
@@ -59,24 +68,33 @@ module _ (P : Var → Type 0) where
         ints = λ v t i.
           let b = int_image_at m.ints v t i in
           (
-            subst (λ (x : Term). term_fits is_number_var x ≡ true) b.2 (each_at (λ (b : IntBind). term_fits is_number_var b.to) b.0 m.ints both.0 b.1),
-            (λ x k. e x (Among-left x ints sets (flat_in (λ (b : IntBind). term_vars b.to) x b.0 m.ints b.1 (subst (λ (y : Term). Among x (term_vars y)) (sym b.2) k)))),
+            (
+              subst (λ (x : Term). term_fits is_number_var x ≡ true) b.2 (each_at (λ (b : IntBind). term_fits is_number_var b.to) b.0 m.ints both.0 b.1),
+              (λ x k. e x (Among-left x ints sets (flat_in (λ (b : IntBind). term_vars b.to) x b.0 m.ints b.1 (subst (λ (y : Term). Among x (term_vars y)) (sym b.2) k)))),
+            ),
+            false_from_ne_true (var_in v exist) (λ q. no_image (int_image m.ints v) t (and_parts (is_none (int_image m.ints v)) (is_none (set_image m.sets v)) (at_exist v q)).0 i),
           );
         sets = λ v u i.
           let b = set_image_at m.sets v u i in
           (
-            subst (λ (x : SetTerm). set_fits is_number_var is_set_var x ≡ true) b.2 (each_at (λ (b : SetBind). set_fits is_number_var is_set_var b.to) b.0 m.sets both.1 b.1),
-            (λ x k. e x (Among-right x ints sets (flat_in (λ (b : SetBind). set_vars b.to) x b.0 m.sets b.1 (subst (λ (y : SetTerm). Among x (set_vars y)) (sym b.2) k)))),
+            (
+              subst (λ (x : SetTerm). set_fits is_number_var is_set_var x ≡ true) b.2 (each_at (λ (b : SetBind). set_fits is_number_var is_set_var b.to) b.0 m.sets both.1 b.1),
+              (λ x k. e x (Among-right x ints sets (flat_in (λ (b : SetBind). set_vars b.to) x b.0 m.sets b.1 (subst (λ (y : SetTerm). Among x (set_vars y)) (sym b.2) k)))),
+            ),
+            false_from_ne_true (var_in v exist) (λ q. no_image (set_image m.sets v) u (and_parts (is_none (int_image m.ints v)) (is_none (set_image m.sets v)) (at_exist v q)).1 i),
           );
       }
+    where
+      at_exist : (v : Var) → var_in v exist ≡ true → (is_none (int_image m.ints v) && is_none (set_image m.sets v)) ≡ true
+      at_exist v q = each_at (λ v. is_none (int_image m.ints v) && is_none (set_image m.sets v)) v exist free (among_from_in v exist q)
 
   -- a companion's map
-  pub link_map_good : (n : Node) → IsSteady n → Each P (flat_map link_vars n.links) → (i : ℕ) (l : Link) → slice_get n.links i ≡ Some l → GoodMap P l.map
-  link_map_good n steady e i l at =
+  pub link_map_good : (n : Node) → IsSteady n → Each P (flat_map link_vars n.links) → (i : ℕ) (l : Link) → slice_get n.links i ≡ Some l → ExistFree l.map l.goal.exist ≡ true → GoodBinds P l.goal.exist l.map
+  link_map_good n steady e i l at free =
       let fits = (and_parts (goal_fits is_number_var is_set_var n.goal) (list_all (link_fits is_number_var is_set_var) n.links) steady.sorted).1 in
       let here = each_at (link_fits is_number_var is_set_var) l n.links fits (slice_get-among n.links i l at) in
       let tuple : List Var = flat_map (λ t. term_vars t) l.tuple in
-      map_is_good l.map (and_parts (list_all (term_fits is_number_var) l.tuple) (images_fit is_number_var is_set_var l.map) here).1
+      map_is_good l.goal.exist l.map free (and_parts (list_all (term_fits is_number_var) l.tuple) (images_fit is_number_var is_set_var l.map) here).1
       (λ v k. e v (flat_in link_vars v l n.links (slice_get-among n.links i l at) (Among-right v tuple (image_vars l.map) k)))
 
   -- ---- present sides

@@ -18,6 +18,7 @@ use Rattle.cyp_kernel.proofs.CallRuns.{call_right}
 use Rattle.cyp_kernel.proofs.CallStart.{Callable, args_passed, call_start, call_stores, callable, callee_values, stores_writable}
 use Rattle.cyp_kernel.proofs.ChunkOrder.{AllHold}
 use Rattle.cyp_kernel.proofs.ForgetVars.{met_by_others}
+use Rattle.cyp_kernel.proofs.FoundImages.{ExistFree}
 use Rattle.cyp_kernel.proofs.FoundMatch.{found}
 use Rattle.cyp_kernel.proofs.GuardTests.{GoesRight}
 use Rattle.cyp_kernel.proofs.SteadyParts.{sorted_goal}
@@ -68,7 +69,7 @@ called n ks (Some l) ms e =
 -- ---- the statements
 
 module _ (ps : List Procedure) (n : Node) (steady : IsSteady n) (i : ℕ) (l : Link) (at : slice_get n.links i ≡ Some l) (inner : IsSteady (unlinked n.preds l.goal))
-    (own : (v : Var) → var_in v (flat_map term_vars l.own) ≡ true → var_in v l.goal.exist ≡ false) (ks : List ℕ) (f : Match) (match : match_at n l ks ≡ Some f) (calls : Callable n l f)
+    (free : ExistFree l.map l.goal.exist ≡ true) (ks : List ℕ) (f : Match) (match : match_at n l ks ≡ Some f) (calls : Callable n l f)
     (names : Names) (p k : ℕ) (works : ProcedureMeets ps n.preds l.goal p k) (b : Body) (premise : BodyMeets ps n.preds (after_call n l f).goal names k b)
     (s : Assignment) (h : Store) (ns : List ℕ) (vs : Values) (pre : SideHolds n.preds s n.goal.pure_pre n.goal.pre.chunks h ns) (named : AreNamed names vs s n.goal.program) where
   abbrev inst : Instances
@@ -88,16 +89,16 @@ module _ (ps : List Procedure) (n : Node) (steady : IsSteady n) (i : ℕ) (l : L
       → GoesRight ps n.preds n.goal s large vs k b
   follows rest others g large post union m t le r =
       let ms : List ℕ = post.1 in
-      let w : Assignment = values n steady i l at inner own ks f match s post.0 ms post.2 in
+      let w : Assignment = values n steady i l at inner free ks f match s post.0 ms post.2 in
       let tag : ℕ = next_tag (insts (chunks_at (pre_of n) f.pairs)) in
-      let side = after_holds n steady i l at inner own ks f match s post.0 ms post.2 tag g large rest post.3 others union pre.0 in
-      let kept : EachPart (AgreeAt s w) n = parts_kept n steady i l at inner own ks f match s post.0 ms post.2 in
+      let side = after_holds n steady i l at inner free ks f match s post.0 ms post.2 tag g large rest post.3 others union pre.0 in
+      let kept : EachPart (AgreeAt s w) n = parts_kept n steady i l at inner free ks f match s post.0 ms post.2 in
       let pairs : f.pairs ≡ ks = (found n l ks f match).pairs_are in
       let side' : SideHolds n.preds w (after_call n l f).goal.pure_pre (after_call n l f).goal.pre.chunks large side.0 =
-      subst (λ (xs : List ℕ). SideHolds n.preds w (after_call n l f).goal.pure_pre (put_all (chunks_beside 0 xs (pre_of n)) (left n steady i l at inner own ks f match s post.0 ms post.2 tag)) large side.0) (sym pairs) side.1 in
+      subst (λ (xs : List ℕ). SideHolds n.preds w (after_call n l f).goal.pure_pre (put_all (chunks_beside 0 xs (pre_of n)) (left n steady i l at inner free ks f match s post.0 ms post.2 tag)) large side.0) (sym pairs) side.1 in
       let sorted = sorted_goal n steady in
       same_post n.preds (after_call n l f).goal n.goal w s t (met_by_others n.preds n.goal s w t.store sorted.pure_post sorted.post kept.pure_post kept.post)
-      (premise w large side.0 vs side' (λ v e. named v e ∙ program_kept n steady i l at inner own ks f match s post.0 ms post.2 v e) m t le r)
+      (premise w large side.0 vs side' (λ v e. named v e ∙ program_kept n steady i l at inner free ks f match s post.0 ms post.2 v e) m t le r)
 
   goes_right : GoesRight ps n.preds n.goal s h vs k (stores n names made (Then (Invoking p args) b))
   goes_right =
@@ -115,7 +116,7 @@ by_call c ps n ms bs names procs new k steady links formed naming is callees all
     let b : Body = first_body bs in
     let calls = callable n l f o.passes in
     let premise = one_premise ps names k (after_call n l f) bs (subst (λ (xs : List Node). AllMeet ps names k xs bs) o.premises all) in
-    let right = goes_right ps n steady c.link l o.link_is (links.goals c.link l o.link_is) (λ v e. links.own_apart c.link l v o.link_is e) c.pairs f o.match_is calls names (slice_index procs c.link) k
+    let right = goes_right ps n steady c.link l o.link_is (links.goals c.link l o.link_is) (links.exist_free c.link l o.link_is) c.pairs f o.match_is calls names (slice_index procs c.link) k
         (callees l o.link_is) b premise s h ns vs pre named in
     subst (λ (x : Body). GoesRight ps n.preds n.goal s h vs k x)
     (sym (ap (linked_call n names procs c b) o.link_is ∙ ap (matched_call n names procs c b l) o.match_is
