@@ -1,5 +1,5 @@
 -- What a match binds: no existential, each other variable of the companion, and to terms of old variables.
-use Rattle.std.proofs.Common.{◌≡◌, refl, sym, ap, ◌∙◌, ℕ, ◌⊎◌, inl, inr, Bool, true, false, cond, ◌||◌, List, [], ◌∷◌, ◌++◌, Option, Some, None, is_some, subst}
+use Rattle.std.proofs.Common.{◌≡◌, refl, sym, ℕ, ◌⊎◌, inl, inr, Bool, true, false, cond, ◌||◌, List, [], ◌∷◌, ◌++◌, Option, Some, None, is_some, subst}
 use Rattle.std.specs.Prelude.{neg_ℤ, option_map}
 use Rattle.std.specs.List.{AllByRecursion}
 use Rattle.std.proofs.lemmas.Option.{none-some, same_Some}
@@ -12,7 +12,7 @@ use Rattle.cyp_kernel.proofs.FoundMatch.{all_kept, and_then_some}
 use Rattle.cyp_kernel.proofs.WalkFinds.{IsFreeOf, binds_some, is_none_from, is_some_out, one_part}
 use Rattle.cyp_term.proofs.Equality.{Decides-var_eq}
 use Rattle.cyp_term.proofs.Lists.{Among}
-use Rattle.cyp_term.specs.Terms.{apply_set, apply_term, base_vars, int_image, is_set_var, plus, set_image, set_vars, term_vars, var_eq, var_in}
+use Rattle.cyp_term.specs.Terms.{apply_term, base_vars, int_image, is_set_var, plus, set_image, set_vars, term_vars, var_eq, var_in}
 use Rattle.cyp_term.specs.declared.lit.Lit.TheVariants.{Eq}
 use Rattle.cyp_term.specs.declared.lit.SetTerm.{SetTerm}
 use Rattle.cyp_term.specs.declared.subst.IntBind.{IntBind}

@@ -1,15 +1,15 @@
 -- After a call the premise's precondition holds.
-use Rattle.std.proofs.Common.{◌≡◌, refl, sym, ap, ◌∙◌, ℕ, zero, suc, ◌==◌, ◌⊎◌, Bool, true, false, not, ◌&&◌, cond, List, [], ◌∷◌, ◌++◌, append-nil, flat_map, map, filter, Option, Some, None, inl, inr, subst}
+use Rattle.std.proofs.Common.{◌≡◌, refl, sym, ap, ◌∙◌, ℕ, suc, ◌==◌, Bool, true, false, not, ◌&&◌, List, [], ◌∷◌, ◌++◌, append-nil, flat_map, map, filter, Some, None, inl, inr, subst}
 use Rattle.std.specs.Prelude.{slice_get}
-use Rattle.std.specs.List.{list_all, list_any}
-use Rattle.std.proofs.lemmas.Bool.{and_from, cond_both, both_ways, not-true, false≢true, false_from_ne_true}
+use Rattle.std.specs.List.{list_any}
+use Rattle.std.proofs.lemmas.Bool.{and_from, cond_both, both_ways, false≢true}
 use Rattle.cyp_goal.proofs.EachVar.{Each, EachPart, each_part}
 use Rattle.cyp_goal.specs.Raw.{set_fits}
 use Rattle.cyp_heap.proofs.Applied.{apply_chunks_law}
 use Rattle.cyp_heap.specs.Assertions.{SideHolds}
-use Rattle.cyp_heap.specs.Chunks.{apply_chunk, chunk_vars, chunks_vars, insts, put_all}
+use Rattle.cyp_heap.specs.Chunks.{apply_chunk, chunk_vars, chunks_vars, put_all}
 use Rattle.cyp_heap.specs.Goals.{goal_vars}
-use Rattle.cyp_heap.specs.Instances.{ChunksHold, InstanceHolds, Instances}
+use Rattle.cyp_heap.specs.Instances.{InstanceHolds, Instances}
 use Rattle.cyp_heap.specs.Stores.{IsUnion, Store}
 use Rattle.cyp_heap.specs.declared.chunk.Arg.TheVariants.{Set as SetArg}
 use Rattle.cyp_heap.specs.declared.chunk.Chunk.{Chunk}
@@ -19,33 +19,31 @@ use Rattle.cyp_heap.specs.declared.goal.Link.{Link}
 use Rattle.cyp_heap.specs.declared.goal.Node.{Node}
 use Rattle.cyp_kernel.proofs.AgreeVars.{AgreeAt, chunk_sorted, is_number_var, lits_by_vars, same_by_vars, side_by_vars, value_same}
 use Rattle.cyp_kernel.proofs.AppliedSides.{lits_applied}
-use Rattle.cyp_kernel.proofs.Bindings.{Extends}
 use Rattle.cyp_kernel.proofs.BoundImages.{BoundBy, GoodBinds, all_are_bound, all_good, found_good}
 use Rattle.cyp_kernel.proofs.BySort.{agree_from, number_at, same_members}
 use Rattle.cyp_kernel.proofs.ChunkOrder.{AllHold, put_all_holds}
 use Rattle.cyp_kernel.proofs.ForgetVars.{agree_sym, among_from_in, in_from_among}
 use Rattle.cyp_kernel.proofs.FoundImages.{ExistFree, link_map_good, rights_good}
-use Rattle.cyp_kernel.proofs.FoundMatch.{Found, found}
+use Rattle.cyp_kernel.proofs.FoundMatch.{found}
 use Rattle.cyp_kernel.proofs.FreePositions.{positions_free}
 use Rattle.cyp_kernel.proofs.GoalFacts.{true_join}
 use Rattle.cyp_kernel.proofs.NewExist.{IsUnbound, after_values, exist_agrees, exist_extends, listed, new_are}
 use Rattle.cyp_kernel.proofs.NewNumber.{old_parts}
 use Rattle.cyp_kernel.proofs.OldVars.{IsOld, old_vars}
 use Rattle.cyp_kernel.proofs.Opened.{number_old, opened_old}
-use Rattle.cyp_kernel.proofs.OpenedHolds.{CardNumbers, cards_are, cards_tagged, tagged}
+use Rattle.cyp_kernel.proofs.OpenedHolds.{cards_are, cards_tagged, tagged}
 use Rattle.cyp_kernel.proofs.SteadyParts.{pre_apart, sorted_goal}
-use Rattle.cyp_kernel.specs.Correct.{AgreeBy, MeetsPost, unlinked}
+use Rattle.cyp_kernel.specs.Correct.{AgreeBy, unlinked}
 use Rattle.cyp_kernel.specs.Steady.{IsSteady}
 use Rattle.cyp_pred.specs.Unfold.{card_var, with_tags}
 use Rattle.cyp_pred.specs.declared.unfolded.Next.{Next}
-use Rattle.cyp_step.specs.Calling.{chunks_at, chunks_beside, next_tag, with_exist, with_new_cards}
+use Rattle.cyp_step.specs.Calling.{chunks_beside, with_exist, with_new_cards}
 use Rattle.cyp_step.specs.Changes.{next_of, pre_of}
 use Rattle.cyp_term.proofs.Equality.{Decides-var_eq}
-use Rattle.cyp_term.proofs.Lists.{Among, Among-cases, Among-left, Among-right, each_at, each_from, filter_in, filter_out, flat_in, flat_out}
-use Rattle.cyp_term.proofs.Repeats.{without_repeats_in, without_repeats_out}
+use Rattle.cyp_term.proofs.Lists.{Among, Among-left, Among-right, each_at, each_from, filter_in, flat_in, flat_out}
+use Rattle.cyp_term.proofs.Repeats.{without_repeats_in}
 use Rattle.cyp_term.specs.Meaning.{AllTrue, Assignment, SameMembers, image_members, image_value, int_in, set_value, under}
 use Rattle.cyp_term.specs.Terms.{apply_lit, is_set_var, lits_vars, set_vars, sort_eq, term_vars, var_eq, var_in}
-use Rattle.cyp_term.specs.declared.lit.Lit.{Lit}
 use Rattle.cyp_term.specs.declared.lit.SetTerm.{SetTerm}
 use Rattle.cyp_term.specs.declared.subst.Subst.{Subst}
 use Rattle.cyp_term.specs.declared.term.Sort.TheVariants.{Set}
@@ -160,14 +158,13 @@ module _ (n : Node) (steady : IsSteady n) (i : ℕ) (l : Link) (at : slice_get n
         let cs : List Chunk = map (apply_chunk by) d.post.chunks in
         let agrees = λ (v : Var) (k : Among v (goal_vars d)). agree_sym v.sort (under by values) t v (inner_agrees v k) in
         let here = side_by_vars t (under by values) n.preds d.pure_post d.post.chunks g ms sorted.pure_post sorted.post
-            (λ v k. agrees v (Among-right v (d.program ++ chunks_vars d.pre.chunks ++ chunks_vars d.post.chunks ++ lits_vars d.pure_pre) (lits_vars d.pure_post) k))
-            (λ v k. agrees v (Among-left v (d.program ++ chunks_vars d.pre.chunks ++ chunks_vars d.post.chunks ++ lits_vars d.pure_pre) (lits_vars d.pure_post)
-            (Among-left v (d.program ++ chunks_vars d.pre.chunks ++ chunks_vars d.post.chunks) (lits_vars d.pure_pre) (Among-right v (d.program ++ chunks_vars d.pre.chunks) (chunks_vars d.post.chunks) k)))) side in
-        let chunks = (apply_chunks_law n.preds by values d.post.chunks g ms).1 here.1 in
-        (
+        (λ v k. agrees v (Among-right v (d.program ++ chunks_vars d.pre.chunks ++ chunks_vars d.post.chunks ++ lits_vars d.pure_pre) (lits_vars d.pure_post) k))
+        (λ v k. agrees v (Among-left v (d.program ++ chunks_vars d.pre.chunks ++ chunks_vars d.post.chunks ++ lits_vars d.pure_pre) (lits_vars d.pure_post)
+        (Among-left v (d.program ++ chunks_vars d.pre.chunks ++ chunks_vars d.post.chunks) (lits_vars d.pure_pre) (Among-right v (d.program ++ chunks_vars d.pre.chunks) (chunks_vars d.post.chunks) k)))) side in
+        let chunks = (apply_chunks_law n.preds by values d.post.chunks g ms).1 here.1 in (
           (lits_applied by values d.pure_post).0 here.0,
           subst (λ (xs : List Chunk). AllHold inst values xs g) (same_tags (card_var 0) tag next.cards cs)
-          (ms, tagged inst values (Some (card_var 0)) tag next.cards cs g ms chunks, cards_tagged inst values (card_var 0) tag next.cards cs g ms chunks (cards_are next 0 0 ms s (listed t exist))),
+              (ms, tagged inst values (Some (card_var 0)) tag next.cards cs g ms chunks, cards_tagged inst values (card_var 0) tag next.cards cs g ms chunks (cards_are next 0 0 ms s (listed t exist))),
         )
 
     old_side : (rest : Store) → AllHold inst s (chunks_beside 0 ks (pre_of n)) rest → AllHold inst values (chunks_beside 0 ks (pre_of n)) rest
@@ -175,10 +172,10 @@ module _ (n : Node) (steady : IsSteady n) (i : ℕ) (l : Link) (at : slice_get n
         let old = old_parts n in
         let beside : List Chunk = chunks_beside 0 ks (pre_of n) in
         let side = side_by_vars s values n.preds [] beside rest a.0 refl
-            (each_from chunk_sorted beside (λ x y. each_at chunk_sorted x (pre_of n) (sorted_goal n steady).pre (beside_among 0 ks (pre_of n) x y)))
-            (λ v x. absurd x)
-            (λ v x. let c = flat_out chunk_vars v beside x in old_agree v (old.pre v (flat_in chunk_vars v c.0 (pre_of n) (beside_among 0 ks (pre_of n) c.0 c.1) c.2)))
-            (tt, a.1, a.2) in
+        (each_from chunk_sorted beside (λ x y. each_at chunk_sorted x (pre_of n) (sorted_goal n steady).pre (beside_among 0 ks (pre_of n) x y)))
+        (λ v x. absurd x)
+        (λ v x. let c = flat_out chunk_vars v beside x in old_agree v (old.pre v (flat_in chunk_vars v c.0 (pre_of n) (beside_among 0 ks (pre_of n) c.0 c.1) c.2)))
+        (tt, a.1, a.2) in
         (a.0, side.1, side.2)
 
     -- what was kept and what the companion leaves make up the premise's precondition

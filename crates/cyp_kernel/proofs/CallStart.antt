@@ -1,21 +1,18 @@
 -- A callable companion's precondition holds in a part of the heap after the stores.
-use Rattle.std.proofs.Common.{◌≡◌, refl, sym, ap, ◌∙◌, ℕ, Bool, true, false, cond, List, [], ◌∷◌, ◌++◌, map, filter, Option, Some, None, is_some, subst}
-use Rattle.std.specs.Prelude.{slice_get}
+use Rattle.std.proofs.Common.{◌≡◌, refl, sym, ap, ◌∙◌, ℕ, Bool, true, false, cond, List, [], ◌∷◌, map, filter, Some, None, is_some, subst}
 use Rattle.std.specs.List.{AllByRecursion, list_all, list_any}
 use Rattle.std.proofs.lemmas.Bool.{and_parts, false≢true}
-use Rattle.std.proofs.lemmas.Option.{same_Some}
-use Rattle.cyp_goal.proofs.LinksFit.{FitsPre, sides_fit}
+use Rattle.cyp_goal.proofs.LinksFit.{sides_fit}
 use Rattle.cyp_goal.specs.Facts.{facts}
 use Rattle.cyp_heap.specs.Assertions.{SideHolds}
 use Rattle.cyp_heap.specs.Instances.{InstanceHolds, Instances}
 use Rattle.cyp_heap.specs.Stores.{IsUnion, Store}
 use Rattle.cyp_heap.specs.declared.chunk.Chunk.{Chunk}
-use Rattle.cyp_heap.specs.declared.goal.Goal.{Goal}
 use Rattle.cyp_heap.specs.declared.goal.Link.{Link}
 use Rattle.cyp_heap.specs.declared.goal.Node.{Node}
 use Rattle.cyp_kernel.proofs.AppliedSides.{lits_applied}
 use Rattle.cyp_kernel.proofs.ChunkOrder.{AllHold}
-use Rattle.cyp_kernel.proofs.FoundMatch.{Found, found}
+use Rattle.cyp_kernel.proofs.FoundMatch.{found}
 use Rattle.cyp_kernel.proofs.FreePositions.{positions_free}
 use Rattle.cyp_kernel.proofs.GoalFacts.{facts_true, shown_true}
 use Rattle.cyp_kernel.proofs.MendedCells.{beside_after, ordered_out, places_after}
@@ -23,8 +20,8 @@ use Rattle.cyp_kernel.proofs.MendsFound.{contents_at, mend_of_content, mend_take
 use Rattle.cyp_kernel.proofs.NamedValues.{expr_is}
 use Rattle.cyp_kernel.proofs.Offsets.{plus-zero}
 use Rattle.cyp_kernel.proofs.PairedChunks.{their_places}
-use Rattle.cyp_kernel.proofs.PairsHold.{AreMade, are_made, pairs_hold}
-use Rattle.cyp_kernel.proofs.PairsOut.{PairsOut, pairs_out}
+use Rattle.cyp_kernel.proofs.PairsHold.{are_made, pairs_hold}
+use Rattle.cyp_kernel.proofs.PairsOut.{pairs_out}
 use Rattle.cyp_kernel.proofs.SteadyParts.{pre_apart, pre_chunk_fits}
 use Rattle.cyp_kernel.proofs.StoreRuns.{mended}
 use Rattle.cyp_kernel.proofs.WalkFinds.{PositionHolds, walk_holds}
@@ -34,18 +31,16 @@ use Rattle.cyp_kernel.specs.Naming.{Names, expr_of}
 use Rattle.cyp_kernel.specs.Statements.{in_cell_order}
 use Rattle.cyp_kernel.specs.Steady.{IsSteady}
 use Rattle.cyp_machine.specs.Values.{Values, expr_value}
-use Rattle.cyp_step.specs.Calling.{are_shown, chunks_at, chunks_beside, is_callable}
+use Rattle.cyp_step.specs.Calling.{are_shown, chunks_beside, is_callable}
 use Rattle.cyp_step.specs.Changes.{pre_of}
 use Rattle.cyp_step.specs.Mends.{is_needed, is_writable, writes_for}
 use Rattle.cyp_step.specs.Shown.{is_program_expr, shown}
-use Rattle.cyp_measure.specs.Decrease.{decreases}
 use Rattle.cyp_term.proofs.Lists.{Among, each_at}
 use Rattle.cyp_term.proofs.Substitution.{value-apply_term}
-use Rattle.cyp_term.specs.Meaning.{AllTrue, Assignment, under, value}
+use Rattle.cyp_term.specs.Meaning.{AllTrue, Assignment, under}
 use Rattle.cyp_term.specs.Terms.{apply_lit, apply_term, var_term, wide_lit}
-use Rattle.cyp_term.specs.declared.lit.Lit.{Lit}
 use Rattle.cyp_term.specs.declared.term.Var.{Var}
-use Rattle.cyp_unify.specs.Matches.{Position, Walk, match_at, no_walk, walk}
+use Rattle.cyp_unify.specs.Matches.{Walk, match_at, no_walk, walk}
 use Rattle.cyp_unify.specs.declared.found.Match.{Match}
 use Rattle.cyp_unify.specs.declared.found.Mend.{Mend}
 
@@ -125,7 +120,7 @@ module _ (n : Node) (steady : IsSteady n) (l : Link) (inner : IsSteady (unlinked
       let places = places_after call_stores (pre_of n) ks (their_places (pre_of n) l.goal.pre.chunks ks o.steps o.paired) in
       let out = pairs_out inst s ks (mended (pre_of n) call_stores) large places all in
       let callee = pairs_hold n.preds s callee_values (pre_of n) f.mends call_stores made o.steps of_content (pre_chunk_fits n steady) l.goal.pre.chunks ks o.steps o.paired
-          (sides_fit n.preds l.goal inner.fits).pre (contents_at (pre_of n) l.goal.pre.chunks ks o.steps o.paired) positions_hold out.part out.paired in
+      (sides_fit n.preds l.goal inner.fits).pre (contents_at (pre_of n) l.goal.pre.chunks ks o.steps o.paired) positions_hold out.part out.paired in
       record {
         part = out.part;
         rest = out.rest;

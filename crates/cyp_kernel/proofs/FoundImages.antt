@@ -1,5 +1,5 @@
 -- The present sides of a match's positions, and the images of a companion's map, are of old variables.
-use Rattle.std.proofs.Common.{◌≡◌, refl, sym, ap, ℕ, Bool, true, false, cond, ◌&&◌, List, [], ◌∷◌, ◌++◌, flat_map, Option, Some, None, inl, inr, subst}
+use Rattle.std.proofs.Common.{◌≡◌, refl, sym, ℕ, Bool, true, false, cond, ◌&&◌, List, [], ◌∷◌, flat_map, Option, Some, None, inl, inr, subst}
 use Rattle.std.specs.Prelude.{is_none, slice_get}
 use Rattle.std.specs.List.{AllByRecursion, list_all}
 use Rattle.std.proofs.lemmas.Bool.{and_parts, false_from_ne_true, false≢true}
@@ -18,7 +18,7 @@ use Rattle.cyp_kernel.proofs.AgreeVars.{chunk_sorted, is_number_var}
 use Rattle.cyp_kernel.proofs.BoundImages.{GoodBinds, GoodRight}
 use Rattle.cyp_kernel.proofs.ForgetVars.{among_from_in}
 use Rattle.cyp_kernel.proofs.PairedChunks.{ArePaired}
-use Rattle.cyp_kernel.proofs.SteadyParts.{chunk_sorted_at, chunk_vars_among, slice_get-among, sorted_goal}
+use Rattle.cyp_kernel.proofs.SteadyParts.{chunk_sorted_at, chunk_vars_among, slice_get-among}
 use Rattle.cyp_kernel.specs.Steady.{IsSteady}
 use Rattle.cyp_term.proofs.Lists.{Among, Among-left, Among-right, Every-append, each_at, flat_in}
 use Rattle.cyp_term.specs.Terms.{int_image, is_set_var, set_image, set_vars, term_vars, var_eq, var_in}
@@ -66,23 +66,21 @@ module _ (P : Var → Type 0) where
       let sets : List Var = flat_map (λ (b : SetBind). set_vars b.to) m.sets in
       record {
         ints = λ v t i.
-          let b = int_image_at m.ints v t i in
-          (
-            (
-              subst (λ (x : Term). term_fits is_number_var x ≡ true) b.2 (each_at (λ (b : IntBind). term_fits is_number_var b.to) b.0 m.ints both.0 b.1),
-              (λ x k. e x (Among-left x ints sets (flat_in (λ (b : IntBind). term_vars b.to) x b.0 m.ints b.1 (subst (λ (y : Term). Among x (term_vars y)) (sym b.2) k)))),
-            ),
-            false_from_ne_true (var_in v exist) (λ q. no_image (int_image m.ints v) t (and_parts (is_none (int_image m.ints v)) (is_none (set_image m.sets v)) (at_exist v q)).0 i),
-          );
+            let b = int_image_at m.ints v t i in (
+              (
+                subst (λ (x : Term). term_fits is_number_var x ≡ true) b.2 (each_at (λ (b : IntBind). term_fits is_number_var b.to) b.0 m.ints both.0 b.1),
+                (λ x k. e x (Among-left x ints sets (flat_in (λ (b : IntBind). term_vars b.to) x b.0 m.ints b.1 (subst (λ (y : Term). Among x (term_vars y)) (sym b.2) k)))),
+              ),
+              false_from_ne_true (var_in v exist) (λ q. no_image (int_image m.ints v) t (and_parts (is_none (int_image m.ints v)) (is_none (set_image m.sets v)) (at_exist v q)).0 i),
+            );
         sets = λ v u i.
-          let b = set_image_at m.sets v u i in
-          (
-            (
-              subst (λ (x : SetTerm). set_fits is_number_var is_set_var x ≡ true) b.2 (each_at (λ (b : SetBind). set_fits is_number_var is_set_var b.to) b.0 m.sets both.1 b.1),
-              (λ x k. e x (Among-right x ints sets (flat_in (λ (b : SetBind). set_vars b.to) x b.0 m.sets b.1 (subst (λ (y : SetTerm). Among x (set_vars y)) (sym b.2) k)))),
-            ),
-            false_from_ne_true (var_in v exist) (λ q. no_image (set_image m.sets v) u (and_parts (is_none (int_image m.ints v)) (is_none (set_image m.sets v)) (at_exist v q)).1 i),
-          );
+            let b = set_image_at m.sets v u i in (
+              (
+                subst (λ (x : SetTerm). set_fits is_number_var is_set_var x ≡ true) b.2 (each_at (λ (b : SetBind). set_fits is_number_var is_set_var b.to) b.0 m.sets both.1 b.1),
+                (λ x k. e x (Among-right x ints sets (flat_in (λ (b : SetBind). set_vars b.to) x b.0 m.sets b.1 (subst (λ (y : SetTerm). Among x (set_vars y)) (sym b.2) k)))),
+              ),
+              false_from_ne_true (var_in v exist) (λ q. no_image (set_image m.sets v) u (and_parts (is_none (int_image m.ints v)) (is_none (set_image m.sets v)) (at_exist v q)).1 i),
+            );
       }
     where
       at_exist : (v : Var) → var_in v exist ≡ true → (is_none (int_image m.ints v) && is_none (set_image m.sets v)) ≡ true

@@ -1,5 +1,5 @@
 -- What a match tells of the walk that found it.
-use Rattle.std.proofs.Common.{◌≡◌, refl, sym, ap, ◌∙◌, ℕ, Bool, true, false, cond, ◌||◌, List, [], ◌∷◌, ◌++◌, map, Option, Some, None, is_some, inl, inr, subst}
+use Rattle.std.proofs.Common.{◌≡◌, refl, sym, ◌∙◌, ℕ, Bool, true, false, cond, ◌||◌, List, [], ◌∷◌, ◌++◌, map, Option, Some, None, is_some, inl, inr, subst}
 use Rattle.std.specs.Prelude.{option_map}
 use Rattle.std.specs.List.{list_any}
 use Rattle.std.specs.Option.{option_and_then}
@@ -7,7 +7,7 @@ use Rattle.std.proofs.lemmas.Option.{none-some, same_Some}
 use Rattle.cyp_goal.specs.Solving.{wide_subst}
 use Rattle.cyp_heap.specs.declared.goal.Link.{Link}
 use Rattle.cyp_heap.specs.declared.goal.Node.{Node}
-use Rattle.cyp_kernel.proofs.Allowed.{mapped_some, taken_some}
+use Rattle.cyp_kernel.proofs.Allowed.{mapped_some}
 use Rattle.cyp_kernel.proofs.Bindings.{Extends, extends_self, extends_trans, int_behind, set_behind}
 use Rattle.cyp_kernel.proofs.GoalFacts.{true_left, true_right}
 use Rattle.cyp_kernel.proofs.PairedChunks.{ArePaired, are_paired}
@@ -20,7 +20,6 @@ use Rattle.cyp_term.specs.declared.lit.Lit.{Lit}
 use Rattle.cyp_term.specs.declared.lit.Lit.TheVariants.{Same}
 use Rattle.cyp_term.specs.declared.lit.SetTerm.{SetTerm}
 use Rattle.cyp_term.specs.declared.subst.Subst.{Subst}
-use Rattle.cyp_term.specs.declared.term.Term.{Term}
 use Rattle.cyp_term.specs.declared.term.Var.{Var}
 use Rattle.cyp_unify.specs.Matches.{Position, Walk, add_int, add_set, all_bound, bound_by_map, finish_match, match_at, no_walk, pair_positions, to_bind, walk}
 use Rattle.cyp_unify.specs.declared.found.Match.{Match}

@@ -78,7 +78,7 @@ after_more : (b : Bool) (m : Mend) (ms : List Mend) (cs : List Chunk) (k : ℕ) 
 after_more true m ms cs k c q e more =
     let here : m.cell ≡ k = eqb-true m.cell k q in
     let o = more (put_content cs m.cell m.value) (record { at = c.at; content = m.value })
-      (subst (λ (i : ℕ). slice_get (put_content cs i m.value) k ≡ Some (Cell (record { at = c.at; content = m.value }))) (sym here) (put_here cs k c m.value e)) in
+    (subst (λ (i : ℕ). slice_get (put_content cs i m.value) k ≡ Some (Cell (record { at = c.at; content = m.value }))) (sym here) (put_here cs k c m.value e)) in
     record {
       content = o.content;
       there = o.there;

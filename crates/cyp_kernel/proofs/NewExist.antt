@@ -1,7 +1,6 @@
 -- A companion's existentials stand for new variables, which have their values.
-use Rattle.std.proofs.Common.{◌≡◌, refl, sym, ap, ◌∙◌, ℕ, zero, suc, ◌+◌, inl, inr, Bool, true, false, not, List, [], ◌∷◌, get_or, ℤ, pos, Option, Some, None, arith, subst}
+use Rattle.std.proofs.Common.{◌≡◌, refl, sym, ap, ◌∙◌, ℕ, suc, ◌+◌, inl, inr, Bool, true, false, not, List, [], ◌∷◌, get_or, ℤ, pos, Option, Some, None, arith, subst}
 use Rattle.std.proofs.lemmas.Bool.{and_parts, both_ways, false≢true, not-true}
-use Rattle.std.proofs.lemmas.Option.{none-some}
 use Rattle.cyp_heap.specs.Formed.{all_differ}
 use Rattle.cyp_kernel.proofs.Bindings.{Extends, extends_self, extends_trans, int_behind, int_last, set_behind, set_last}
 use Rattle.cyp_kernel.proofs.BoundImages.{int_back, set_back}

@@ -1,5 +1,5 @@
 -- The rule Call is sound.
-use Rattle.std.proofs.Common.{◌≡◌, refl, sym, ap, ◌∙◌, ℕ, Bool, true, false, List, [], ◌∷◌, flat_map, map, Option, Some, None, subst}
+use Rattle.std.proofs.Common.{◌≡◌, refl, sym, ap, ◌∙◌, ℕ, Bool, true, false, List, [], ◌∷◌, map, Option, Some, None, subst}
 use Rattle.std.specs.Prelude.{slice_get, slice_index}
 use Rattle.std.proofs.lemmas.Option.{none-some, same_Some}
 use Rattle.cyp_goal.proofs.EachVar.{EachPart}
@@ -7,7 +7,6 @@ use Rattle.cyp_heap.specs.Assertions.{SideHolds}
 use Rattle.cyp_heap.specs.Chunks.{insts, put_all}
 use Rattle.cyp_heap.specs.Instances.{InstanceHolds, Instances}
 use Rattle.cyp_heap.specs.Stores.{IsUnion, Store}
-use Rattle.cyp_heap.specs.declared.chunk.Chunk.{Chunk}
 use Rattle.cyp_heap.specs.declared.goal.Link.{Link}
 use Rattle.cyp_heap.specs.declared.goal.Node.{Node}
 use Rattle.cyp_kernel.proofs.AgreeVars.{AgreeAt}
@@ -22,7 +21,7 @@ use Rattle.cyp_kernel.proofs.FoundImages.{ExistFree}
 use Rattle.cyp_kernel.proofs.FoundMatch.{found}
 use Rattle.cyp_kernel.proofs.GuardTests.{GoesRight}
 use Rattle.cyp_kernel.proofs.SteadyParts.{sorted_goal}
-use Rattle.cyp_kernel.proofs.StoreRuns.{mended, stores_right}
+use Rattle.cyp_kernel.proofs.StoreRuns.{stores_right}
 use Rattle.cyp_kernel.specs.CallLaw.{CallLaw}
 use Rattle.cyp_kernel.specs.Correct.{MeetsPost, unlinked}
 use Rattle.cyp_kernel.specs.Meets.{AreNamed, BodyMeets, ProcedureMeets}
@@ -35,11 +34,9 @@ use Rattle.cyp_prog.specs.Programs.{Body, Invoking, Procedure, Then}
 use Rattle.cyp_prog.specs.declared.stmt.Expr.{Expr}
 use Rattle.cyp_step.specs.Calling.{after_call, chunks_at, chunks_beside, is_callable, next_tag, raw_call}
 use Rattle.cyp_step.specs.Changes.{pre_of}
-use Rattle.cyp_step.specs.Mends.{writes_for}
 use Rattle.cyp_step.specs.declared.rule.CallBy.{CallBy}
 use Rattle.cyp_term.specs.Meaning.{Assignment}
-use Rattle.cyp_term.specs.Terms.{apply_term, term_vars, var_in, var_term}
-use Rattle.cyp_term.specs.declared.term.Var.{Var}
+use Rattle.cyp_term.specs.Terms.{apply_term, var_term}
 use Rattle.cyp_unify.specs.Matches.{match_at}
 use Rattle.cyp_unify.specs.declared.found.Match.{Match}
 use Rattle.cyp_unify.specs.declared.found.Mend.{Mend}
@@ -117,7 +114,7 @@ by_call c ps n ms bs names procs new k steady links formed naming is callees all
     let calls = callable n l f o.passes in
     let premise = one_premise ps names k (after_call n l f) bs (subst (λ (xs : List Node). AllMeet ps names k xs bs) o.premises all) in
     let right = goes_right ps n steady c.link l o.link_is (links.goals c.link l o.link_is) (links.exist_free c.link l o.link_is) c.pairs f o.match_is calls names (slice_index procs c.link) k
-        (callees l o.link_is) b premise s h ns vs pre named in
+    (callees l o.link_is) b premise s h ns vs pre named in
     subst (λ (x : Body). GoesRight ps n.preds n.goal s h vs k x)
     (sym (ap (linked_call n names procs c b) o.link_is ∙ ap (matched_call n names procs c b l) o.match_is
     ∙ ap (λ (x : Option (List Mend)). stores n names (in_cell_order (kept_mends x)) (Then (Invoking (slice_index procs c.link) (map (λ v. expr_of names (apply_term f.by (var_term v))) l.goal.program)) b)) calls.writes))
