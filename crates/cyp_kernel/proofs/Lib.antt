@@ -7,8 +7,11 @@ pub mod BodyRuns
 pub mod BoundAlone
 pub mod BoundEquation
 pub mod BoundGrowth
+pub mod BoundImages
 pub mod BySort
+pub mod CallEnd
 pub mod CallRuns
+pub mod CallStart
 pub mod ChunkOrder
 pub mod ClauseAgrees
 pub mod ClosedPrograms
@@ -17,7 +20,10 @@ pub mod Examples
 mod ExamplesPrograms
 pub mod Folded
 pub mod ForgetVars
+pub mod FoundImages
+pub mod FoundMatch
 pub mod FramePairs
+pub mod FreePositions
 pub mod GoalFacts
 pub mod GuardTests
 pub mod HeapAdded
@@ -26,7 +32,10 @@ pub mod HeapParts
 pub mod HeapRemoved
 pub mod LowerMeasures
 pub mod MatchVars
+pub mod MendedCells
+pub mod MendsFound
 pub mod NamedValues
+pub mod NewExist
 pub mod NewNumber
 pub mod NormalBody
 pub mod NormalEach
@@ -41,11 +50,13 @@ pub mod OldVars
 pub mod Opened
 pub mod OpenedHolds
 pub mod PairedChunks
+pub mod PairsHold
 pub mod PairsOut
 pub mod ParamsAgree
 pub mod PassedVars
 pub mod PlainCards
 pub mod RuleAlloc
+pub mod RuleCall
 pub mod RuleClose
 pub mod RuleEmp
 pub mod RuleExamples

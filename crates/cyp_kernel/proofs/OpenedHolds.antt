@@ -32,19 +32,19 @@ use Rattle.cyp_term.specs.declared.subst.Subst.{Subst}
 use Rattle.cyp_term.specs.declared.term.Var.{Var}
 
 -- the cardinalities from k on are these heights
-abbrev CardNumbers : Assignment → ℕ → List ℕ → Type 0
+abbrev pub CardNumbers : Assignment → ℕ → List ℕ → Type 0
 CardNumbers t k [] = Unit {0}
 CardNumbers t k (n ∷ ns) = (t.number (card_var k) ≡ pos n) × CardNumbers t (suc k) ns
 
 module _ (inst : Instances) (t : Assignment) where
   -- tags and cardinalities don't matter for the heap
-  tagged : (card : Option Var) (tag k : ℕ) (cs : List Chunk) (h : Store) (ns : List ℕ) → ChunksHold inst t cs h ns → ChunksHold inst t (with_tags card tag k cs) h ns
+  pub tagged : (card : Option Var) (tag k : ℕ) (cs : List Chunk) (h : Store) (ns : List ℕ) → ChunksHold inst t cs h ns → ChunksHold inst t (with_tags card tag k cs) h ns
   tagged card tag k [] h ns o = o
   tagged card tag k (Inst i ∷ cs) h ns o = (o.0, o.1, o.2, o.3, o.4, o.5, o.6, tagged card tag (suc k) cs o.1 o.3 o.7)
   tagged card tag k (Block b ∷ cs) h ns o = (o.0, o.1, o.2, o.3, tagged card tag k cs o.1 ns o.4)
   tagged card tag k (Cell c ∷ cs) h ns o = (o.0, o.1, o.2, o.3, tagged card tag k cs o.1 ns o.4)
 
-  cards_tagged : (a : Var) (tag k : ℕ) (cs : List Chunk) (h : Store) (ns : List ℕ) → ChunksHold inst t cs h ns → CardNumbers t k ns → CardsAre t (with_tags (Some a) tag k cs) ns
+  pub cards_tagged : (a : Var) (tag k : ℕ) (cs : List Chunk) (h : Store) (ns : List ℕ) → ChunksHold inst t cs h ns → CardNumbers t k ns → CardsAre t (with_tags (Some a) tag k cs) ns
   cards_tagged a tag k [] h ns o n = tt
   cards_tagged a tag k (Inst i ∷ cs) h ns o n =
       let m : CardNumbers t k (o.2 ∷ o.3) = subst (λ (ms : List ℕ). CardNumbers t k ms) o.4 n in
@@ -83,7 +83,7 @@ module _ (x : Next) (ints' sets : ℕ) (ns : List ℕ) (s w : Assignment) where
       one : (d i : ℕ) → suc d + i ≡ d + suc i
       one d i = omega arith
 
-  cards_are : CardNumbers (opened x ints' sets ns s w) x.cards ns
+  pub cards_are : CardNumbers (opened x ints' sets ns s w) x.cards ns
   cards_are = subst (λ (y : ℕ). CardNumbers (opened x ints' sets ns s w) y ns) (none x.cards) (cards_from 0 ns (λ i. ap (λ (y : ℕ). get_or ns y 0) (zero_plus i)))
     where
       none : (a : ℕ) → a + 0 ≡ a

@@ -139,7 +139,7 @@ module _ (by : Subst) (t : Assignment) where
       one : (a i j : ℕ) → suc i ≤ j → suc a + (j - suc i) ≡ a + (j - i)
       one a i j l = omega arith
 
-  variable_set : (v : Var) → set_value t (set_var v) ≡ t.members v
+  pub variable_set : (v : Var) → set_value t (set_var v) ≡ t.members v
   variable_set v = append-nil (t.members v ++ []) ∙ append-nil (t.members v)
 
   pub own_sets_same : (i a m : ℕ) → SetsBound by.sets i (map set_var (new_sets a m)) → (j : ℕ) → i ≤ j → j < i + m

@@ -1,9 +1,9 @@
 -- The law of each rule at a small node: its premises are met there.
-use Rattle.std.proofs.Common.{◌≡◌, refl, ℕ, ◌<◌, Bool, true, false, cond, not, List, [], ◌∷◌, ◌++◌, None, Some, ℤ, pos, arith, subst}
-use Rattle.std.specs.Prelude.{IsTrue, slice_get}
+use Rattle.std.proofs.Common.{◌≡◌, refl, ℕ, zero, suc, ◌<◌, ◌&&◌, Bool, true, false, cond, not, List, [], ◌∷◌, ◌++◌, None, Some, ℤ, pos, arith, subst}
+use Rattle.std.specs.Prelude.{IsTrue, is_none, slice_get}
 use Rattle.std.specs.List.{list_all}
 use Rattle.std.proofs.lemmas.Bool.{false≢true}
-use Rattle.std.proofs.lemmas.Option.{none-some}
+use Rattle.std.proofs.lemmas.Option.{none-some, same_Some}
 use Rattle.cyp_goal.specs.Raw.{is_sorted}
 use Rattle.cyp_heap.specs.Assertions.{SideHolds}
 use Rattle.cyp_heap.specs.Chunks.{chunks_vars}
@@ -21,6 +21,7 @@ use Rattle.cyp_kernel.proofs.BodyRuns.{ended_run}
 use Rattle.cyp_kernel.proofs.Examples.{empty_goal, empty_node}
 use Rattle.cyp_kernel.proofs.ForgetVars.{agree_self, mixed, mixed_out}
 use Rattle.cyp_kernel.proofs.RuleAlloc.{by_alloc}
+use Rattle.cyp_kernel.proofs.RuleCall.{by_call}
 use Rattle.cyp_kernel.proofs.RuleClose.{by_close}
 use Rattle.cyp_kernel.proofs.RuleEmp.{by_emp}
 use Rattle.cyp_kernel.proofs.RuleFrame.{by_frame}
@@ -31,19 +32,21 @@ use Rattle.cyp_kernel.proofs.RulePick.{by_pick}
 use Rattle.cyp_kernel.proofs.RuleRead.{by_read}
 use Rattle.cyp_kernel.proofs.RuleWrite.{by_write}
 use Rattle.cyp_kernel.specs.Correct.{MeetsPost}
-use Rattle.cyp_kernel.specs.Meets.{BodyMeets, IsNaming}
+use Rattle.cyp_kernel.specs.Meets.{BodyMeets, IsNaming, ProcedureMeets}
 use Rattle.cyp_kernel.specs.Naming.{Names}
 use Rattle.cyp_kernel.specs.Steady.{IsSteady}
-use Rattle.cyp_prog.specs.Programs.{End, Failing, Giving, Loading, Procedure, Storing, Taking, Then}
+use Rattle.cyp_kernel.specs.SteadyLinks.{HasSteadyLinks}
+use Rattle.cyp_prog.specs.Programs.{End, Failing, Giving, Invoking, Loading, Procedure, Storing, Taking, Then}
 use Rattle.cyp_prog.specs.declared.stmt.Expr.{Expr}
 use Rattle.cyp_step.specs.Step.{raws}
 use Rattle.cyp_step.specs.Unfolding.{open_link}
-use Rattle.cyp_step.specs.declared.rule.Rule.TheVariants.{ByAlloc, ByClose, ByEmp, ByFrame, ByFree, ByInconsistent, ByOpen, ByPick, ByRead, ByWrite}
+use Rattle.cyp_step.specs.declared.rule.CallBy.{CallBy}
+use Rattle.cyp_step.specs.declared.rule.Rule.TheVariants.{ByAlloc, ByCall, ByClose, ByEmp, ByFrame, ByFree, ByInconsistent, ByOpen, ByPick, ByRead, ByWrite}
 use Rattle.cyp_term.specs.Entailment.{arrangement_fits, arrangements, class_literals, entailed, satisfiable}
 use Rattle.cyp_term.specs.Integers.{all_cases, both, eliminate, eliminate_all, feasible, ints_fit, joined}
 use Rattle.cyp_term.specs.Meaning.{Assignment, value}
 use Rattle.cyp_term.specs.Regions.{all_set_vars, all_terms, regions_fit}
-use Rattle.cyp_term.specs.Terms.{lits_vars, number_term, sort_eq, var_eq, var_in, var_term}
+use Rattle.cyp_term.specs.Terms.{int_image, lits_vars, number_term, set_image, sort_eq, var_eq, var_in, var_term}
 use Rattle.cyp_term.specs.declared.lit.Lit.TheVariants.{Eq, Lt}
 use Rattle.cyp_term.specs.declared.term.Sort.TheVariants.{Card, Int}
 use Rattle.cyp_term.specs.declared.term.Term.{Term}
@@ -350,3 +353,49 @@ module _ (ps : List Procedure) (k : ℕ) where
   unfolded_meets =
       by_open 0 ps (over unfolded) (emptied_node ∷ []) (End ∷ []) [] [] 1 k (unlinked_steady preds unfolded refl refl refl refl refl refl) preds_formed no_names unfolded_premises tt
       (end_meets preds emptied [] (λ s h ms pre. (s, ms, (λ v e. agree_self v.sort s v), (tt, pre.1, pre.2))), tt)
+
+  -- ---- Call: { a1 < a0, q() at a1 } { emp }, where a companion is { q() at a0 } { emp }
+
+  abbrev companion : Link
+  companion = open_link (over unfolded) 0 instance
+
+  abbrev smaller : Var
+  smaller = record { sort = Card; number = 1 }
+
+  abbrev repeated : Goal
+  repeated = record empty_goal {
+    pure_pre = Lt (var_term smaller) (var_term (record { sort = Card; number = 0 })) ∷ [];
+    pre = record { chunks = Inst (record instance { card = Some smaller }) ∷ [] };
+  }
+
+  abbrev repeated_node : Node
+  repeated_node = record { preds = preds; goal = repeated; links = companion ∷ [] }
+
+  abbrev left_node : Node
+  left_node = record repeated_node { goal = record repeated { pre = record { chunks = [] } } }
+
+  abbrev call : CallBy
+  call = record { link = 0; pairs = 0 ∷ [] }
+
+  repeated_premises : raws repeated_node (ByCall call) ≡ Some (left_node ∷ [])
+  unfolding joined eliminate eliminate_all feasible both all_cases ints_fit arrangements class_literals arrangement_fits satisfiable regions_fit all_terms all_set_vars entailed
+  repeated_premises = refl
+
+  only_link : (P : Link → Type 0) → P companion → (i : ℕ) (l : Link) → slice_get (companion ∷ []) i ≡ Some l → P l
+  only_link P p zero l e = subst P (same_Some companion l e) p
+  only_link P p (suc i) l e = absurd (none-some l e)
+
+  repeated_steady : IsSteady repeated_node
+  repeated_steady = record { sorted = refl; fits = refl; program_int = refl; program_differs = refl; exist_differs = refl; exist_apart = refl; exist_images = λ l i v p h. refl }
+
+  repeated_links : HasSteadyLinks repeated_node
+  repeated_links = record {
+    goals = only_link (λ (l : Link). IsSteady (over l.goal)) (unlinked_steady preds unfolded refl refl refl refl refl refl);
+    exist_free = only_link (λ (l : Link). IsTrue (list_all (λ v. is_none (int_image l.map.ints v) && is_none (set_image l.map.sets v)) l.goal.exist)) refl;
+  }
+
+  repeated_meets : ProcedureMeets ps preds unfolded 0 k → BodyMeets ps preds repeated [] k (Then (Invoking 0 []) End)
+  repeated_meets callee =
+      by_call call ps repeated_node (left_node ∷ []) (End ∷ []) [] (0 ∷ []) 1 k repeated_steady repeated_links preds_formed no_names repeated_premises
+      (only_link (λ (l : Link). ProcedureMeets ps preds l.goal 0 k) callee 0)
+      (end_meets preds left_node.goal [] (λ s h ms pre. (s, ms, (λ v e. agree_self v.sort s v), (tt, pre.1, pre.2))), tt)

@@ -63,11 +63,11 @@ grows_trans a b c p q = record {
 
 -- ---- terms
 
-is_none_from : {A : Type 0} (o : Option A) → is_some o ≡ false → o ≡ None
+pub is_none_from : {A : Type 0} (o : Option A) → is_some o ≡ false → o ≡ None
 is_none_from None e = refl
 is_none_from (Some x) e = absurd (false≢true (sym e))
 
-is_some_out : {A : Type 0} (o : Option A) → is_some o ≡ true → (x : A) × (o ≡ Some x)
+pub is_some_out : {A : Type 0} (o : Option A) → is_some o ≡ true → (x : A) × (o ≡ Some x)
 is_some_out None e = absurd (false≢true e)
 is_some_out (Some x) e = (x, refl)
 
@@ -76,7 +76,7 @@ bound_new : (c : Bool) (o : Option Term) (e : Bool) (v w : Var) → c ≡ (e || 
 bound_new true o e v w p h = absurd (none-some v h)
 bound_new false o e v w p h = (same_Some w v h, is_none_from o (or_parts e (is_some o) (sym p)).1)
 
-binds_some : (exist : List Var) (by : Subst) (t : Term) (v : Var) → binds exist by t ≡ Some v → (t.base ≡ Some v) × (int_image by.ints v ≡ None)
+pub binds_some : (exist : List Var) (by : Subst) (t : Term) (v : Var) → binds exist by t ≡ Some v → (t.base ≡ Some v) × (int_image by.ints v ≡ None)
 binds_some exist by t v e =
     let a = taken_some t.base (λ w. cond (var_in w exist || is_some (int_image by.ints w)) None (Some w)) v e in
     let b = bound_new (var_in a.0 exist || is_some (int_image by.ints a.0)) (int_image by.ints a.0) (var_in a.0 exist) v a.0 refl a.2 in
@@ -87,7 +87,7 @@ not_new : (c : Bool) (o : Option Term) (e : Bool) (w : Var) → c ≡ (e || is_s
 not_new true o e w p f h = is_some_out o (sym (p ∙ ap (λ (b : Bool). b || is_some o) f))
 not_new false o e w p f h = absurd (none-some w (sym h))
 
-bound_base : (exist : List Var) (by : Subst) (b : Option Var)
+pub bound_base : (exist : List Var) (by : Subst) (b : Option Var)
     → ◌≡◌ {A = Option Var} (elim b [ None ↦ None | Some v ↦ cond (var_in v exist || is_some (int_image by.ints v)) None (Some v) ]) None
     → Each (λ v. var_in v exist ≡ false) (base_vars b) → IsBound by b
 bound_base exist by None e f = tt
@@ -111,7 +111,7 @@ no_parts (v ∷ []) (t ∷ es) e f = absurd (false≢true (sym f))
 no_parts (v ∷ w ∷ vs) [] e f = absurd (false≢true (sym f))
 no_parts (v ∷ w ∷ vs) (t ∷ es) e f = absurd (false≢true (sym f))
 
-one_part : (vs : List Var) (es : List Term) (v : Var) → lone_of_parts vs es ≡ Some v → (vs ≡ v ∷ []) × (es ≡ [])
+pub one_part : (vs : List Var) (es : List Term) (v : Var) → lone_of_parts vs es ≡ Some v → (vs ≡ v ∷ []) × (es ≡ [])
 one_part [] [] v e = absurd (none-some v e)
 one_part [] (t ∷ es) v e = absurd (none-some v e)
 one_part (w ∷ []) [] v e = (ap (λ u. u ∷ []) (same_Some w v e), refl)
@@ -217,7 +217,7 @@ module _ (exist : List Var) (w : Walk) where
   step_good (Content k t r) f = content_step k t r f (binds exist w.by t) refl
   step_good (OfSet x r) f = set_by x r f (lone_of_parts x.vars x.elems) refl
 
-walk_grows : (exist : List Var) (w : Walk) (ps : List Position) → AllByRecursion (IsFreeOf exist) ps → Grows w (walk exist w ps)
+pub walk_grows : (exist : List Var) (w : Walk) (ps : List Position) → AllByRecursion (IsFreeOf exist) ps → Grows w (walk exist w ps)
 walk_grows exist w [] f = grows_self w
 walk_grows exist w (p ∷ ps) f =
     grows_trans w (walk_step exist w p) (walk exist (walk_step exist w p) ps) (step_good exist w p f.0).grows (walk_grows exist (walk_step exist w p) ps f.1)

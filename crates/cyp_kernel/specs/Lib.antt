@@ -1,5 +1,6 @@
 pub mod Accepted
 pub mod Bound
+pub mod CallLaw
 pub mod Companions
 pub mod Compile
 pub mod Correct
@@ -15,3 +16,4 @@ pub mod RuleLaws
 pub mod Statements
 pub mod Steady
 pub mod SteadyLaws
+pub mod SteadyLinks

@@ -17,5 +17,5 @@ pub use meaning::{
     sorts_are_needed, steps_keep_meaning,
 };
 pub use normal_rules::rules_are_sound_in_normal_form;
-pub use rules::{flat_rules_are_sound, unfolding_rules_are_sound};
+pub use rules::{call_rule_is_sound, flat_rules_are_sound, unfolding_rules_are_sound};
 pub use steady::{nodes_stay_steady, normal_existentials_stand, rules_leave_steady};

@@ -1,4 +1,6 @@
+ghost use Rattle.cyp_kernel.specs.CallLaw.{CallLaw};
 ghost use Rattle.cyp_kernel.specs.RuleLaws.{RuleLaw};
+ghost use Rattle.cyp_step.specs.declared.rule.CallBy.{CallBy};
 ghost use Rattle.cyp_step.specs.declared.rule.Rule.TheVariants.{ByAlloc, ByClose, ByEmp, ByFrame, ByFree, ByInconsistent, ByOpen, ByPick, ByRead, ByWrite};
 ghost use Rattle.cyp_term.specs.declared.term.Var.{Var};
 ghost use Rattle.std.specs.Prelude.{ℕ};
@@ -21,4 +23,9 @@ pub fn flat_rules_are_sound()
 pub fn unfolding_rules_are_sound()
     ensures open { (i : ℕ) → RuleLaw (ByOpen i) }
     ensures close { (k : ℕ) → RuleLaw (ByClose k) }
+{}
+
+/// Law: so it is for a call of a companion, where the goals of the companions are as the rules ask.
+pub fn call_rule_is_sound()
+    ensures { (c : CallBy) → CallLaw c }
 {}
