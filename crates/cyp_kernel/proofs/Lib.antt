@@ -29,6 +29,7 @@ pub mod HeapAdded
 pub mod HeapCells
 pub mod HeapParts
 pub mod HeapRemoved
+pub mod LinksFree
 pub mod LowerMeasures
 pub mod MendedCells
 pub mod MendsFound
