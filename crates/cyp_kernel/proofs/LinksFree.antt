@@ -1,8 +1,8 @@
 -- No existential of a companion has an image in its map: so it is of the companion that Open adds, and no rule changes it.
-use Rattle.std.proofs.Common.{◌≡◌, refl, sym, ◌∙◌, ℕ, Bool, true, false, not, ◌&&◌, ◌||◌, ◌==◌, length, List, [], ◌∷◌, ◌++◌, map, filter, Option, Some, None, option_map, inl, inr, subst}
+use Rattle.std.proofs.Common.{◌≡◌, refl, sym, ℕ, true, false, not, ◌&&◌, ◌||◌, ◌==◌, length, List, [], ◌∷◌, map, filter, Option, Some, None, inl, inr, subst}
 use Rattle.std.specs.Prelude.{is_none, nat_lt, slice_get}
 use Rattle.std.specs.List.{AllByRecursion, list_all}
-use Rattle.std.proofs.lemmas.Bool.{and_from, both_ways, cond-false, false_from_ne_true, not-true}
+use Rattle.std.proofs.lemmas.Bool.{and_from, both_ways, false_from_ne_true, not-true}
 use Rattle.cyp_goal.specs.Facts.{facts}
 use Rattle.cyp_heap.specs.Chunks.{insts, without}
 use Rattle.cyp_heap.specs.Goals.{node_vars}
@@ -57,8 +57,8 @@ open_link_free n i j =
     each_from (λ v. is_none (int_image (identity_map n).ints v) && is_none (set_image (identity_map n).sets v)) n.goal.exist
     (λ v k.
     let apart = λ (w : Var) (m : Among w known) (e : w ≡ v).
-        both_ways (var_in w n.goal.exist) (not-true (var_in w n.goal.exist) (filter_out (λ x. not (var_in x n.goal.exist)) w (node_vars n) m).1)
-        (in_from_among w n.goal.exist (subst (λ (y : Var). Among y n.goal.exist) (sym e) k)) in
+    both_ways (var_in w n.goal.exist) (not-true (var_in w n.goal.exist) (filter_out (λ x. not (var_in x n.goal.exist)) w (node_vars n) m).1)
+    (in_from_among w n.goal.exist (subst (λ (y : Var). Among y n.goal.exist) (sym e) k)) in
     and_from (is_none (int_image (identity_map n).ints v)) (is_none (set_image (identity_map n).sets v))
     (no_int (filter (λ x. not (is_set_var x)) known) v (λ w m e. apart w (filter_out (λ x. not (is_set_var x)) w known m).0 e))
     (no_set (filter is_set_var known) v (λ w m e. apart w (filter_out is_set_var w known m).0 e)))
