@@ -37,6 +37,7 @@ pub mod NamedValues
 pub mod NewExist
 pub mod NewNumber
 pub mod NormalBody
+pub mod NormalLinks
 pub mod NormalMeaning
 pub mod NormalReady
 pub mod NormalSteady
