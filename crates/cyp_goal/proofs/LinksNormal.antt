@@ -5,7 +5,7 @@ use Rattle.std.specs.Option.{option_and_then}
 use Rattle.std.proofs.lemmas.Bool.{cond_both}
 use Rattle.cyp_goal.specs.Normal.{Renaming, keep_limits, normal, solve, tidy_node}
 use Rattle.cyp_goal.specs.Numbering.{numbering, renumber}
-use Rattle.cyp_goal.specs.Pruning.{prune}
+use Rattle.cyp_goal.specs.Pruning.{only_vars, prune}
 use Rattle.cyp_goal.specs.Solving.{first_solved, is_logical, solve_post, solve_pre, solved_any, solved_eq, substitute, wide_subst, with_post, with_pre}
 use Rattle.cyp_heap.specs.Formed.{IsWellLinked}
 use Rattle.cyp_heap.specs.Goals.{apply_link, apply_node, node_vars, wide_node}
@@ -22,13 +22,14 @@ use Rattle.cyp_term.specs.Terms.{var_in}
 use Rattle.cyp_term.specs.declared.lit.Lit.{Lit}
 use Rattle.cyp_term.specs.declared.subst.Subst.{Subst}
 use Rattle.cyp_term.specs.declared.term.Term.{Term}
+use Rattle.cyp_term.specs.declared.term.Var.{Var}
 
 -- the fact of nodes is kept by substitutions that keep cardinalities, by changes of a goal beside its chunks,
--- and by changes of the companions' maps
+-- and by leaving entries out of the companions' maps
 pub record IsKept (P : Node → Type 0) : Type 0 where
   pub applied : (by : Subst) → KeepsCards by → (n : Node) → P n → P (apply_node by n)
   pub beside : (n : Node) (g : Goal) → g.pre ≡ n.goal.pre → g.post ≡ n.goal.post → P n → P (record n { goal = g })
-  pub maps : (n : Node) (to : Link → Subst) → P n → P (record n { links = map (λ (k : Link). record k { map = to k }) n.links })
+  pub maps : (n : Node) (vs : List Var) → P n → P (record n { links = map (λ (k : Link). record k { map = only_vars vs k.map }) n.links })
 
 -- what comes of a node has the fact, and is within the limits
 pub record IsKeptWithin (P : Node → Type 0) (r : Renaming) : Type 0 where
@@ -109,7 +110,7 @@ linked_kept : IsKept IsWellLinked
 linked_kept = record {
   applied = λ by k n w. IsWellLinked-map (apply_link by) (apply_link_keeps by) n (apply_node by n).goal w;
   beside = λ n g e f w. IsWellLinked-goal n g w;
-  maps = λ n to w. IsWellLinked-map (λ (k : Link). record k { map = to k }) (other_map to) n n.goal w;
+  maps = λ n vs w. IsWellLinked-map (λ (k : Link). record k { map = only_vars vs k.map }) (other_map (λ k. only_vars vs k.map)) n n.goal w;
 }
 
 -- a normal form of a well linked node is well linked
@@ -125,7 +126,7 @@ fits_kept : (preds : Preds) → IsKept (FitsOver preds)
 fits_kept preds = record {
   applied = λ by k n f. record { same = f.same; sides = applied_sides by preds k n.goal f.sides };
   beside = λ n g e d f. record { same = f.same; sides = same_sides preds n.goal g e d f.sides };
-  maps = λ n to f. record { same = f.same; sides = f.sides };
+  maps = λ n vs f. record { same = f.same; sides = f.sides };
 }
 
 -- a normal form has instances that fit where the node has
@@ -136,7 +137,7 @@ bare_kept : IsKept (λ n. n.links ≡ [])
 bare_kept = record {
   applied = λ by k n e. ap (map (apply_link by)) e;
   beside = λ n g e d h. h;
-  maps = λ n to e. ap (map (λ (k : Link). record k { map = to k })) e;
+  maps = λ n vs e. ap (map (λ (k : Link). record k { map = only_vars vs k.map })) e;
 }
 
 -- a normal form of a node without companions has none

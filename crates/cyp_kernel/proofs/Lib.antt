@@ -30,6 +30,7 @@ pub mod HeapAdded
 pub mod HeapCells
 pub mod HeapParts
 pub mod HeapRemoved
+pub mod LinksFree
 pub mod LowerMeasures
 pub mod MatchVars
 pub mod MendedCells
@@ -39,6 +40,7 @@ pub mod NewExist
 pub mod NewNumber
 pub mod NormalBody
 pub mod NormalEach
+pub mod NormalLinks
 pub mod NormalMeaning
 pub mod NormalReady
 pub mod NormalRules
