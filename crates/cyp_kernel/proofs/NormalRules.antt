@@ -1,24 +1,32 @@
 -- A rule is sound through the normal form where it is so before it.
-use Rattle.std.proofs.Common.{◌≡◌, ◌∷◌, ℕ, List, [], Some, sym, subst}
+use Rattle.std.proofs.Common.{◌≡◌, ◌∷◌, ℕ, IfSome, List, [], Option, Some, sym, subst}
 use Rattle.std.specs.List.{AllByRecursion}
 use Rattle.std.proofs.lemmas.List.Elements.{recursion_from_All}
 use Rattle.std.proofs.lemmas.Option.{option_and_then_some, same_Some}
 use Rattle.cyp_goal.specs.Normal.{Renaming}
+use Rattle.cyp_heap.specs.declared.goal.Link.{Link}
 use Rattle.cyp_heap.specs.declared.goal.Node.{Node}
 use Rattle.cyp_heap.specs.declared.pred.Preds.{Preds}
 use Rattle.cyp_kernel.proofs.NormalBody.{normal_bodies}
 use Rattle.cyp_kernel.proofs.NormalEach.{Split, split}
 use Rattle.cyp_kernel.proofs.NormalSteady.{steady_is_ready}
+use Rattle.cyp_kernel.proofs.RuleCall.{by_call}
 use Rattle.cyp_kernel.proofs.SteadyRules.{leaves_steady}
 use Rattle.cyp_kernel.specs.Compile.{with_new_name}
+use Rattle.cyp_kernel.specs.Correct.{unlinked}
 use Rattle.cyp_kernel.specs.Naming.{Names}
 use Rattle.cyp_kernel.specs.NormalRules.{AllMeetRenamed, NodeRuleLaw, NormalRuleLaw}
 use Rattle.cyp_kernel.specs.RuleLaws.{AllMeet, RuleLaw}
-use Rattle.cyp_kernel.specs.SteadyLaws.{IsSteadyRaw}
+use Rattle.cyp_kernel.specs.Steady.{IsSteady}
+use Rattle.cyp_kernel.specs.SteadyLaws.{IsSteadyNode, IsSteadyRaw}
+use Rattle.cyp_kernel.specs.SteadyLinks.{HasFreeExist, HasSteadyLinks}
 use Rattle.cyp_prog.specs.Programs.{Body, Procedure}
+use Rattle.cyp_step.proofs.ChunkLists.{Every-slice_get}
 use Rattle.cyp_step.specs.Nodes.{IsOver}
 use Rattle.cyp_step.specs.Step.{all_normal, raws}
+use Rattle.cyp_step.specs.declared.rule.CallBy.{CallBy}
 use Rattle.cyp_step.specs.declared.rule.Rule.{Rule}
+use Rattle.cyp_step.specs.declared.rule.Rule.TheVariants.{ByCall}
 
 -- bodies that meet the goals of the normal forms meet those of the nodes
 meet_before : (ps : List Procedure) (names : Names) (k : ℕ) (preds : Preds) (ms : List Node) (rs : List Renaming) (bs : List Body)
@@ -47,3 +55,16 @@ through_node rule law ps n rs bs names procs next k formed w naming is callee al
 
 pub through_normal : (rule : Rule) → RuleLaw rule → NormalRuleLaw rule
 through_normal rule law = through_node rule (at_nodes rule law)
+
+-- ---- a call
+
+-- the companions of a node of a derivation are as a call asks
+steady_links : (n : Node) → IsSteadyNode n → HasSteadyLinks n
+steady_links n w = record {
+  goals = λ i l e. subst (λ (o : Option Link). IfSome o (λ (k : Link). IsSteady (unlinked n.preds k.goal))) e (Every-slice_get (λ (k : Link). IsSteady (unlinked n.preds k.goal)) n.links i w.raw.companions);
+  exist_free = λ i l e. subst (λ (o : Option Link). IfSome o HasFreeExist) e (Every-slice_get HasFreeExist n.links i w.free);
+}
+
+pub call_at_nodes : (c : CallBy) → NodeRuleLaw (ByCall c)
+call_at_nodes c ps n ms bs names procs next k formed w naming e callee all =
+    by_call c ps n ms bs names procs next k w.raw.steady (steady_links n w) formed naming e callee all

@@ -78,6 +78,7 @@ reading_steady = record {
     };
     companions = tt;
   };
+  free = tt;
   exist_stand = refl;
 }
 

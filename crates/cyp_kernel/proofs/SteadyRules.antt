@@ -7,6 +7,7 @@ use Rattle.std.proofs.lemmas.Option.{option_and_then_some, same_Some}
 use Rattle.cyp_goal.proofs.LinksNormal.{IsKept, IsKeptWithin, normal_kept}
 use Rattle.cyp_goal.specs.Facts.{facts}
 use Rattle.cyp_goal.specs.Normal.{Renaming, normal}
+use Rattle.cyp_goal.specs.Pruning.{only_vars}
 use Rattle.cyp_heap.specs.Chunks.{insts}
 use Rattle.cyp_heap.specs.Formed.{inst_fits}
 use Rattle.cyp_heap.specs.Goals.{apply_link}
@@ -19,7 +20,9 @@ use Rattle.cyp_heap.specs.declared.pred.Clause.{Clause}
 use Rattle.cyp_heap.specs.declared.pred.Pred.{Pred}
 use Rattle.cyp_heap.specs.declared.pred.Preds.{Preds}
 use Rattle.cyp_kernel.proofs.Allowed.{mapped_some}
+use Rattle.cyp_kernel.proofs.LinksFree.{AreFree, raws_free}
 use Rattle.cyp_kernel.proofs.NormalEach.{Split, split}
+use Rattle.cyp_kernel.proofs.NormalLinks.{normal_free}
 use Rattle.cyp_kernel.proofs.NormalSteady.{formed_is_steady, normal_is_steady}
 use Rattle.cyp_kernel.proofs.NumberedVars.{normal_exist_stand}
 use Rattle.cyp_kernel.proofs.SteadyCall.{CompanionRight, call_steady}
@@ -28,7 +31,7 @@ use Rattle.cyp_kernel.proofs.SteadyNodes.{ChunkClear, ChunkSorted, CompanionStea
 use Rattle.cyp_kernel.proofs.SteadyUnfold.{close_steady, open_steady}
 use Rattle.cyp_kernel.specs.Correct.{unlinked}
 use Rattle.cyp_kernel.specs.Steady.{IsSteady}
-use Rattle.cyp_kernel.specs.SteadyLaws.{IsSteadyNode, IsSteadyRaw, LeavesSteady, PremisesSteady, RootIsSteady, CompanionsSteady}
+use Rattle.cyp_kernel.specs.SteadyLaws.{CompanionsFree, CompanionsSteady, IsSteadyNode, IsSteadyRaw, LeavesSteady, PremisesSteady, RootIsSteady}
 use Rattle.cyp_step.proofs.ChunkLists.{Every-slice_get}
 use Rattle.cyp_step.proofs.EachRule.{raws_left}
 use Rattle.cyp_step.proofs.Premises.{premises_are_nodes}
@@ -106,7 +109,7 @@ companions_kept : IsKept CompanionsSteady
 companions_kept = record {
   applied = λ by k n h. same_goals n.preds (apply_link by) (λ l. refl) n.links h;
   beside = λ n g e f h. h;
-  maps = λ n to h. same_goals n.preds (λ (k : Link). record k { map = to k }) (λ l. refl) n.links h;
+  maps = λ n vs h. same_goals n.preds (λ (k : Link). record k { map = only_vars vs k.map }) (λ l. refl) n.links h;
 }
   where
     same_goals : (preds : Preds) (f : Link → Link) → ((l : Link) → (f l).goal ≡ l.goal) → (ls : List Link) → AllByRecursion (CompanionSteady preds) ls → AllByRecursion (CompanionSteady preds) (map f ls)
@@ -118,16 +121,22 @@ normal_companions n r h e =
     let k : IsKeptWithin CompanionsSteady r = subst (λ (o : Option Renaming). IfSome o (IsKeptWithin CompanionsSteady)) e (normal_kept CompanionsSteady companions_kept n h) in
     k.fact
 
-premises_each : (preds : Preds) (ms : List Node) (rs : List Renaming) → AllByRecursion (IsOver preds IsSteadyRaw) ms → all_normal ms ≡ Some rs
+-- nor does it give a companion's existential an image
+normal_companions_free : (n : Node) (r : Renaming) → CompanionsFree n → normal n ≡ Some r → CompanionsFree r.node
+normal_companions_free n r h e =
+    let k : IsKeptWithin CompanionsFree r = subst (λ (o : Option Renaming). IfSome o (IsKeptWithin CompanionsFree)) e (normal_free n h) in
+    k.fact
+
+premises_each : (preds : Preds) (ms : List Node) (rs : List Renaming) → AllByRecursion (IsOver preds IsSteadyRaw) ms → AllByRecursion CompanionsFree ms → all_normal ms ≡ Some rs
     → AllByRecursion (IsOver preds IsNode) (nodes_of rs) → AllByRecursion (IsOver preds IsSteadyNode) (nodes_of rs)
-premises_each preds [] rs h e k = subst (λ (xs : List Renaming). AllByRecursion (IsOver preds IsSteadyNode) (nodes_of xs)) (same_Some [] rs e) tt
-premises_each preds (m ∷ ms) rs h e k =
+premises_each preds [] rs h free e k = subst (λ (xs : List Renaming). AllByRecursion (IsOver preds IsSteadyNode) (nodes_of xs)) (same_Some [] rs e) tt
+premises_each preds (m ∷ ms) rs h free e k =
     let d : Split m ms rs = split m ms rs e in
     let nodes = subst (λ (xs : List Renaming). AllByRecursion (IsOver preds IsNode) (nodes_of xs)) d.both k in
     let steady = normal_is_steady m d.first h.0.fact.steady d.first_is in
     let stand = normal_exist_stand m d.first h.0.fact.steady d.first_is in
     subst (λ (xs : List Renaming). AllByRecursion (IsOver preds IsSteadyNode) (nodes_of xs)) (sym d.both)
-    (record { same = nodes.0.same; fact = record { node = nodes.0.fact; raw = record { steady = steady; companions = normal_companions m d.first h.0.fact.companions d.first_is }; exist_stand = stand } }, premises_each preds ms d.others h.1 d.others_are nodes.1)
+    (record { same = nodes.0.same; fact = record { node = nodes.0.fact; raw = record { steady = steady; companions = normal_companions m d.first h.0.fact.companions d.first_is }; free = normal_companions_free m d.first free.0 d.first_is; exist_stand = stand } }, premises_each preds ms d.others h.1 free.1 d.others_are nodes.1)
 
 pub premises_steady : PremisesSteady
 premises_steady n r ms f w e =
@@ -136,7 +145,7 @@ premises_steady n r ms f w e =
     option_and_then_some all_normal (raws n r) a.0 a.1 (λ xs is d.
     All-from_recursion (IsOver n.preds IsSteadyNode) ms
     (subst (AllByRecursion (IsOver n.preds IsSteadyNode)) a.2
-    (premises_each n.preds xs a.0 (recursion_from_All (IsOver n.preds IsSteadyRaw) xs (leaves_steady n r xs f w is)) d (subst (AllByRecursion (IsOver n.preds IsNode)) (sym a.2) nodes))))
+    (premises_each n.preds xs a.0 (recursion_from_All (IsOver n.preds IsSteadyRaw) xs (leaves_steady n r xs f w is)) (subst AreFree is (raws_free n w.free r)) d (subst (AllByRecursion (IsOver n.preds IsNode)) (sym a.2) nodes))))
 
 pub root_is_steady : RootIsSteady
 root_is_steady preds g r f sorted e =
@@ -148,6 +157,7 @@ root_is_steady preds g r f sorted e =
       fact = record {
         node = node.fact;
         raw = record { steady = normal_is_steady m r before e; companions = normal_companions m r tt e };
+        free = normal_companions_free m r tt e;
         exist_stand = normal_exist_stand m r before e;
       };
     }

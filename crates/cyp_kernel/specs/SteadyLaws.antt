@@ -12,6 +12,7 @@ use Rattle.cyp_heap.specs.declared.goal.Node.{Node}
 use Rattle.cyp_heap.specs.declared.pred.Preds.{Preds}
 use Rattle.cyp_kernel.specs.Correct.{unlinked}
 use Rattle.cyp_kernel.specs.Steady.{IsSteady}
+use Rattle.cyp_kernel.specs.SteadyLinks.{HasFreeExist}
 use Rattle.cyp_step.specs.Nodes.{IsNode, IsOver}
 use Rattle.cyp_step.specs.Step.{premises, raws}
 use Rattle.cyp_step.specs.declared.rule.Rule.{Rule}
@@ -26,10 +27,15 @@ pub record IsSteadyRaw (n : Node) : Type 0 where
   pub steady : IsSteady n
   pub companions : CompanionsSteady n
 
--- a steady node within limits and well linked, each of whose existentials stands in it
+-- no existential of a companion has an image in its map
+abbrev pub CompanionsFree : Node → Type 0
+CompanionsFree n = AllByRecursion HasFreeExist n.links
+
+-- a steady node within limits and well linked, each of whose existentials stands in it, and whose companions' existentials have no images
 pub record IsSteadyNode (n : Node) : Type 0 where
   pub node : IsNode n
   pub raw : IsSteadyRaw n
+  pub free : CompanionsFree n
   pub exist_stand : IsTrue (list_all (λ v. var_in v (node_vars n)) n.goal.exist)
 
 -- what a rule leaves to do, before the normal form, is as the rules ask, and so are the companions

@@ -1,7 +1,8 @@
 ghost use Rattle.cyp_kernel.specs.NormalRules.{NodeRuleLaw, NormalRuleLaw};
 ghost use Rattle.cyp_kernel.specs.RuleLaws.{RuleLaw};
+ghost use Rattle.cyp_step.specs.declared.rule.CallBy.{CallBy};
 ghost use Rattle.cyp_step.specs.declared.rule.Rule.{Rule};
-ghost use Rattle.cyp_step.specs.declared.rule.Rule.TheVariants.{ByAlloc, ByClose, ByEmp, ByFrame, ByFree, ByInconsistent, ByOpen, ByPick, ByRead, ByWrite};
+ghost use Rattle.cyp_step.specs.declared.rule.Rule.TheVariants.{ByAlloc, ByCall, ByClose, ByEmp, ByFrame, ByFree, ByInconsistent, ByOpen, ByPick, ByRead, ByWrite};
 ghost use Rattle.cyp_term.specs.declared.term.Var.{Var};
 ghost use Rattle.std.specs.Prelude.{ℕ};
 
@@ -20,4 +21,5 @@ pub fn rules_are_sound_in_normal_form()
     ensures pick { (v : Var) → NormalRuleLaw (ByPick v) }
     ensures open { (i : ℕ) → NormalRuleLaw (ByOpen i) }
     ensures close { (c : ℕ) → NormalRuleLaw (ByClose c) }
+    ensures call { (c : CallBy) → NormalRuleLaw (ByCall c) }
 {}

@@ -1,4 +1,4 @@
-use Rattle.cyp_kernel.proofs.NormalRules.{at_nodes, through_node, through_normal}
+use Rattle.cyp_kernel.proofs.NormalRules.{at_nodes, call_at_nodes, through_node, through_normal}
 use Rattle.cyp_kernel.proofs.RuleAlloc.{by_alloc}
 use Rattle.cyp_kernel.proofs.RuleClose.{by_close}
 use Rattle.cyp_kernel.proofs.RuleEmp.{by_emp}
@@ -10,7 +10,7 @@ use Rattle.cyp_kernel.proofs.RulePick.{by_pick}
 use Rattle.cyp_kernel.proofs.RuleRead.{by_read}
 use Rattle.cyp_kernel.proofs.RuleWrite.{by_write}
 use Rattle.cyp_kernel.proofs.normal_rules.rules_are_sound_in_normal_form.Goals as goal
-use Rattle.cyp_step.specs.declared.rule.Rule.TheVariants.{ByAlloc, ByClose, ByEmp, ByFrame, ByFree, ByInconsistent, ByOpen, ByPick, ByRead, ByWrite}
+use Rattle.cyp_step.specs.declared.rule.Rule.TheVariants.{ByAlloc, ByCall, ByClose, ByEmp, ByFrame, ByFree, ByInconsistent, ByOpen, ByPick, ByRead, ByWrite}
 
 pub returns-clause-each : goal.returns-clause-each
 returns-clause-each c = through_node
@@ -47,3 +47,6 @@ returns-clause-close c k = through_normal (ByClose k) (by_close k)
 
 pub returns-clause-open : goal.returns-clause-open
 returns-clause-open c i = through_normal (ByOpen i) (by_open i)
+
+pub returns-clause-call : goal.returns-clause-call
+returns-clause-call c b = through_node (ByCall b) (call_at_nodes b)
