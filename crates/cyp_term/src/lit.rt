@@ -1,5 +1,6 @@
 ghost use Rattle.std.specs.Prelude.{◌≡◌, IfOk};
 ghost use Rattle.cyp_term.specs.Terms.{negated};
+ghost use Rattle.cyp_term.specs.SetTermValue.{AllSets};
 
 use crate::copied::{Copied, Exact};
 use crate::fail::NoMemory;
@@ -25,6 +26,31 @@ impl Model for SetTerm {
     ghost invariant = { λ t. AllSets t.vars };
 
     ghost inverse = { λ t. record { vars = t.vars; elems = t.elems } };
+}
+
+impl SetTerm {
+    /// The union of the variables and the elements.
+    pub fn new(vars: List<Var>, elems: List<Term>) -> SetTerm
+        requires { AllSets vars }
+        ensures { result ≡ record { vars = vars; elems = elems } }
+    {
+        SetTerm { vars, elems }
+    }
+
+    /// The set variables of the union, in their order.
+    pub fn vars(&self) -> &[Var]
+        ensures vars { result.now ≡ self.now.vars }
+        ensures sorts { AllSets result.now }
+    {
+        self.vars.as_slice()
+    }
+
+    /// The single elements of the union, in their order.
+    pub fn elems(&self) -> &[Term]
+        ensures { result.now ≡ self.now.elems }
+    {
+        self.elems.as_slice()
+    }
 }
 
 /// A comparison of two integers or two sets, a membership or an inclusion, or the negation of one.

@@ -1,5 +1,5 @@
 ghost use Rattle.std.specs.Prelude.{◌≡◌};
-ghost use Rattle.cyp_term.specs.TermValue.{IsTerm};
+ghost use Rattle.cyp_term.specs.TermValue.{IsBase, IsTerm};
 
 use crate::copied::{Copied, Exact};
 use crate::fail::NoMemory;
@@ -59,14 +59,16 @@ impl Term {
 
     /// The variable of the term, or `None` where the term is a constant.
     pub fn base(&self) -> Option<Var>
-        ensures { result ≡ self.now.base }
+        ensures base { result ≡ self.now.base }
+        ensures sort { IsBase result }
     {
         self.base
     }
 
     /// The number that the term adds to its variable, or the constant itself.
     pub fn offset(&self) -> i64
-        ensures { result ≡ self.now.offset }
+        ensures offset { result ≡ self.now.offset }
+        ensures range { IsTerm self.now.base result }
     {
         self.offset
     }
