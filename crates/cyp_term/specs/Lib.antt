@@ -1,4 +1,5 @@
 pub mod formers
+pub mod Answers
 pub mod Entailment
 pub mod Exactly
 pub mod ExactLits

@@ -1,4 +1,5 @@
-ghost use Rattle.std.specs.Prelude.{◌≡◌};
+ghost use Rattle.std.specs.Prelude.{option_map, ◌≡◌};
+ghost use Rattle.cyp_term.specs.Terms.{int_image, set_image};
 
 use crate::copied::Copied;
 use crate::fail::NoMemory;
@@ -26,6 +27,32 @@ pub struct SetBind {
 pub struct Subst {
     pub ints: List<IntBind>,
     pub sets: List<SetBind>,
+}
+
+impl Subst {
+    /// The image of a variable of sort `Int` or `Card` by its first entry, or `None` where it has none.
+    pub fn image(&self, var: Var) -> Option<Term>
+        ensures { result ≡ int_image self.now.ints var }
+    {
+        for bind in self.ints.as_slice() {
+            if bind.var == var {
+                return Some(bind.to);
+            }
+        }
+        None
+    }
+
+    /// The image of a set variable by its first entry, or `None` where it has none.
+    pub fn set_image(&self, var: Var) -> Option<&SetTerm>
+        ensures { option_map (λ u. u.now) result ≡ set_image self.now.sets var }
+    {
+        for bind in self.sets.as_slice() {
+            if bind.var == var {
+                return Some(&bind.to);
+            }
+        }
+        None
+    }
 }
 
 impl Copied for IntBind {

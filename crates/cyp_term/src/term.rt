@@ -1,11 +1,17 @@
 ghost use Rattle.std.specs.Prelude.{◌≡◌};
+ghost use Rattle.std.specs.Prelude.{negsuc, pos, ◌^◌, ◌-◌, ◌≤ℤ◌};
+ghost use Rattle.cyp_term.specs.Answers.{AnswersUnless};
 ghost use Rattle.cyp_term.specs.TermValue.{IsBase, IsTerm};
+ghost use Rattle.cyp_term.specs.Terms.{apply_term, plus, wide_term};
 
 use crate::copied::{Copied, Exact};
 use crate::fail::NoMemory;
+use crate::subst::Subst;
 use std::alloc::Global;
 use std::marker::Model;
 use thiserror::Error;
+
+const WIDEST: i64 = 1 << 32;
 
 /// What a variable stands for: an integer, the cardinality of an instance, which is an integer
 /// too, or a finite set of integers.
@@ -71,6 +77,39 @@ impl Term {
         ensures range { IsTerm self.now.base result }
     {
         self.offset
+    }
+}
+
+impl Term {
+    /// The term with its base replaced by the base's image. It is `TooWide` exactly where the sum of
+    /// the offsets passes 2^32 in size.
+    pub fn apply(self, by: &Subst) -> Result<Term, TooWide>
+        ensures { AnswersUnless (wide_term (apply_term by.now self)) (apply_term by.now self) result }
+    {
+        match self.base {
+            Some(var) => match by.image(var) {
+                Some(to) => to.plus(self.offset),
+                None => Ok(self),
+            },
+            None => Ok(self),
+        }
+    }
+
+    /// The term plus a number of at most 2^33 in size. It is `TooWide` exactly where the sum of the
+    /// offsets passes 2^32 in size.
+    pub fn plus(self, more: i64) -> Result<Term, TooWide>
+        requires least { negsuc (2 ^ 33 - 1) ≤ℤ more }
+        requires most { more ≤ℤ pos (2 ^ 33) }
+        ensures { AnswersUnless (wide_term (plus self more)) (plus self more) result }
+    {
+        let offset = self.offset + more;
+        if offset < -WIDEST || offset > WIDEST {
+            return Err(TooWide);
+        }
+        Ok(Term {
+            base: self.base,
+            offset,
+        })
     }
 }
 
