@@ -113,6 +113,12 @@ impl Term {
     }
 }
 
+impl Copied for Sort {
+    fn copy(&self, _alloc: Global) -> Result<Sort, NoMemory> {
+        Ok(*self)
+    }
+}
+
 impl Copied for Var {
     fn copy(&self, _alloc: Global) -> Result<Var, NoMemory> {
         Ok(*self)
