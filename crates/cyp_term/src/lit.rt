@@ -1,4 +1,5 @@
-ghost use Rattle.std.specs.Prelude.{◌≡◌, IfOk};
+ghost use Rattle.std.specs.Prelude.{◌≡◌, ◌↔◌, IfOk};
+ghost use Rattle.cyp_term.specs.Meaning.{Assignment, Truth};
 ghost use Rattle.cyp_term.specs.Terms.{negated};
 ghost use Rattle.cyp_term.specs.SetTermValue.{AllSets};
 
@@ -70,8 +71,10 @@ pub enum Lit {
 
 impl Lit {
     /// The literal that is true where this one is false.
+    #[tactic(auto, using(crate::proofs::Negation::negated_iff))]
     pub fn negated(self) -> Lit
-        ensures { result ≡ negated self }
+        ensures gives { result ≡ negated self }
+        ensures turned { (s : Assignment) → Truth s result ↔ (¬ (Truth s self)) }
     {
         match self {
             Lit::Eq(a, b) => Lit::Ne(a, b),
