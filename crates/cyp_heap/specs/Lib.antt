@@ -1,6 +1,7 @@
 pub mod BlockValue
 pub mod HeapValue
 pub mod Chunks
+pub mod Puts
 pub mod PredsValue
 pub mod NodeValue
 pub mod Goals
