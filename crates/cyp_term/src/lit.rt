@@ -1,12 +1,18 @@
-ghost use Rattle.std.specs.Prelude.{◌≡◌, ◌↔◌, IfOk};
-ghost use Rattle.cyp_term.specs.Meaning.{Assignment, Truth};
-ghost use Rattle.cyp_term.specs.Terms.{negated};
+ghost use Rattle.std.specs.Prelude.{◌≡◌, ◌↔◌, IfOk, OnOk, false};
+ghost use Rattle.std.specs.List.{list_any};
+ghost use Rattle.cyp_term.specs.Answers.{GivesUnless};
+ghost use Rattle.cyp_term.specs.Images.{image_elems, image_of, image_vars};
+ghost use Rattle.cyp_term.specs.Meaning.{Assignment, SameMembers, Truth, set_value, under};
+ghost use Rattle.cyp_term.specs.Terms.{apply_set, negated, term_eq, var_eq, wide_set, wide_term, with_all_new, without_repeats};
+ghost use Rattle.cyp_term.specs.declared.term.Sort.TheVariants.{Set};
 ghost use Rattle.cyp_term.specs.SetTermValue.{AllSets};
 
 use crate::copied::{Copied, Exact};
-use crate::fail::NoMemory;
+use crate::fail::{Fail, NoMemory};
 use crate::list::List;
-use crate::term::{Term, Var};
+use crate::once::{add_term, add_terms, add_var, add_vars};
+use crate::subst::Subst;
+use crate::term::{Term, TooWide, Var};
 use std::alloc::Global;
 use std::marker::Model;
 
@@ -51,6 +57,79 @@ impl SetTerm {
         ensures { result.now ≡ self.now.elems }
     {
         self.elems.as_slice()
+    }
+
+    /// The set term with each variable replaced by what its image brings, an unbound one by itself,
+    /// and with each element replaced by its image: first the images' elements and then its own, each part
+    /// once. It is `TooWide` exactly where an offset of an element passes 2^32 in size.
+    pub fn apply(&self, alloc: Global, by: &Subst) -> Result<SetTerm, Fail<TooWide>>
+        ensures gives { GivesUnless (wide_set (apply_set by.now self.now)) (apply_set by.now self.now) result }
+        ensures value { IfOk result (λ u. (s : Assignment) → SameMembers (set_value s u) (set_value (under by.now s) self.now)) }
+    {
+        let vars = self.applied_vars(alloc, by)?;
+        let elems = self.applied_elems(alloc, by)?;
+        Ok(SetTerm { vars, elems })
+    }
+}
+
+/// Adds what the set variable's image brings, or the variable itself where it is unbound.
+#[tactic(auto, using(crate::proofs::Images::AllSets_with_new, crate::proofs::Images::AllSets_with_all_new))]
+fn add_image_vars(vars: &mut Vec<Var>, var: Var, by: &Subst) -> Result<(), NoMemory>
+    requires { var.sort ≡ Set }
+    ensures vars { OnOk result (vars.new.items ≡ with_all_new var_eq vars.old.items (image_of by.now var).vars) }
+    ensures sorts { OnOk result (AllSets vars.old.items → AllSets vars.new.items) }
+{
+    match by.set_image(var) {
+        Some(image) => add_vars(vars, image.vars()),
+        None => add_var(vars, var),
+    }
+}
+
+/// Adds the elements of the set variable's image. Each is in range.
+fn add_image_elems(elems: &mut Vec<Term>, var: Var, by: &Subst) -> Result<(), NoMemory>
+    ensures elems { OnOk result (elems.new.items ≡ with_all_new term_eq elems.old.items (image_of by.now var).elems) }
+    ensures narrow { OnOk result (list_any wide_term (image_of by.now var).elems ≡ false) }
+{
+    match by.set_image(var) {
+        Some(image) => add_terms(elems, image.elems()),
+        None => Ok(()),
+    }
+}
+
+impl SetTerm {
+    #[tactic(auto, using(crate::proofs::Repeats::with_all_new_append))]
+    fn applied_vars(&self, alloc: Global, by: &Subst) -> Result<List<Var>, NoMemory>
+        ensures vars { IfOk result (λ vs. vs ≡ without_repeats var_eq (image_vars by.now self.now.vars)) }
+        ensures sorts { IfOk result (λ vs. AllSets vs) }
+    {
+        let mut vars = Vec::new(alloc);
+        for var in self.vars.as_slice() {
+            add_image_vars(&mut vars, *var, by)?;
+        }
+        Ok(List::from_vec(vars))
+    }
+
+    #[tactic(auto, using(crate::proofs::Repeats::with_all_new_append))]
+    fn image_elems(&self, alloc: Global, by: &Subst) -> Result<Vec<Term>, NoMemory>
+        ensures elems { IfOk result (λ es. es.items ≡ without_repeats term_eq (image_elems by.now self.now.vars)) }
+        ensures narrow { OnOk result (list_any wide_term (image_elems by.now self.now.vars) ≡ false) }
+    {
+        let mut elems = Vec::new(alloc);
+        for var in self.vars.as_slice() {
+            add_image_elems(&mut elems, *var, by)?;
+        }
+        Ok(elems)
+    }
+
+    #[tactic(auto, using(crate::proofs::Repeats::with_all_new_append))]
+    fn applied_elems(&self, alloc: Global, by: &Subst) -> Result<List<Term>, Fail<TooWide>>
+        ensures { GivesUnless (wide_set (apply_set by.now self.now)) (apply_set by.now self.now).elems result }
+    {
+        let mut elems = self.image_elems(alloc, by)?;
+        for elem in self.elems.as_slice() {
+            add_term(&mut elems, elem.apply(by)?)?;
+        }
+        Ok(List::from_vec(elems))
     }
 }
 
