@@ -7,6 +7,7 @@ mod fail;
 mod laws;
 mod list;
 mod lit;
+mod once;
 mod roomy;
 mod shared;
 mod steps;
