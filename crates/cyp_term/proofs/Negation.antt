@@ -1,5 +1,5 @@
 -- A literal or its negation is true, and not both.
-use Rattle.std.proofs.Common.{◌≡◌, ◌⊎◌, ◌↔◌, ℤ, inl, inr}
+use Rattle.std.proofs.Common.{◌≡◌, ◌⊎◌, ◌↔◌, ℤ, inl, inr, subst, sym}
 use Rattle.std.specs.Ordering.{int_eq}
 use Rattle.std.proofs.lemmas.Bool.{cases_Bool}
 use Rattle.std.proofs.lemmas.Bool.Decides.{Decides-int_eq, not_from_Decides}
@@ -7,6 +7,7 @@ use Rattle.cyp_term.specs.declared.lit.Lit.{Lit}
 use Rattle.cyp_term.specs.declared.lit.Lit.TheVariants.{Eq, Ne, Le, Lt, Same, NotSame, Member, NotMember, Sub, NotSub}
 use Rattle.cyp_term.specs.Terms.{negated}
 use Rattle.cyp_term.specs.Meaning.{Assignment, value, set_value, Truth}
+use Rattle.cyp_term.specs.Under.{IsOpposite}
 use Rattle.cyp_term.proofs.Numbers.{not_le_from_lt, lt_or_le}
 use Rattle.cyp_term.proofs.Sets.{int_in_or_not, IsSubset_or_not, SameMembers_or_not}
 
@@ -47,3 +48,7 @@ turned_iff h k = (λ q p. k p q, λ n. elim h [ inl p ↦ absurd (n p) | inr q �
 
 pub negated_iff : (a : Assignment) (l : Lit) → Truth a (negated l) ↔ (¬ (Truth a l))
 negated_iff a l = turned_iff (truth_or_negated a l) (not_both a l)
+
+-- what is the negation of a literal is its opposite
+pub opposite_of : (l m : Lit) → m ≡ negated l → IsOpposite l m
+opposite_of l m is = subst (λ (k : Lit). IsOpposite l k) (sym is) (record { turned = λ a. negated_iff a l })

@@ -11,3 +11,4 @@ pub mod Room
 pub mod SetTermValue
 pub mod TermValue
 pub mod Terms
+pub mod Under

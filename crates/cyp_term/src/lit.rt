@@ -1,11 +1,11 @@
-ghost use Rattle.std.specs.Prelude.{◌≡◌, ◌↔◌, IfOk, OnOk, false};
+ghost use Rattle.std.specs.Prelude.{◌≡◌, IfOk, OnOk, false};
 ghost use Rattle.std.specs.List.{list_any};
 ghost use Rattle.cyp_term.specs.Answers.{GivesUnless};
 ghost use Rattle.cyp_term.specs.Images.{image_elems, image_of, image_vars};
-ghost use Rattle.cyp_term.specs.Meaning.{Assignment, SameMembers, Truth, set_value, under};
 ghost use Rattle.cyp_term.specs.Terms.{apply_lit, apply_set, negated, term_eq, var_eq, wide_lit, wide_set, wide_term, with_all_new, without_repeats};
 ghost use Rattle.cyp_term.specs.declared.term.Sort.TheVariants.{Set};
 ghost use Rattle.cyp_term.specs.SetTermValue.{AllSets};
+ghost use Rattle.cyp_term.specs.Under.{IsOpposite, MembersUnder, TruthUnder};
 
 use crate::copied::{Copied, Exact};
 use crate::fail::{Fail, NoMemory};
@@ -64,7 +64,7 @@ impl SetTerm {
     /// once. It is `TooWide` exactly where an offset of an element passes 2^32 in size.
     pub fn apply(&self, alloc: Global, by: &Subst) -> Result<SetTerm, Fail<TooWide>>
         ensures gives { GivesUnless (wide_set (apply_set by.now self.now)) (apply_set by.now self.now) result }
-        ensures value { IfOk result (λ u. (s : Assignment) → SameMembers (set_value s u) (set_value (under by.now s) self.now)) }
+        ensures value { IfOk result (λ u. MembersUnder by.now self.now u) }
     {
         let vars = self.applied_vars(alloc, by)?;
         let elems = self.applied_elems(alloc, by)?;
@@ -150,10 +150,10 @@ pub enum Lit {
 
 impl Lit {
     /// The literal that is true where this one is false.
-    #[tactic(auto, using(crate::proofs::Negation::negated_iff))]
+    #[tactic(auto, using(crate::proofs::Negation::opposite_of))]
     pub fn negated(self) -> Lit
         ensures gives { result ≡ negated self }
-        ensures turned { (s : Assignment) → Truth s result ↔ (¬ (Truth s self)) }
+        ensures turned { IsOpposite self result }
     {
         match self {
             Lit::Eq(a, b) => Lit::Ne(a, b),
@@ -175,7 +175,7 @@ impl Lit {
     /// it passes 2^32 in size.
     pub fn apply(&self, alloc: Global, by: &Subst) -> Result<Lit, Fail<TooWide>>
         ensures gives { GivesUnless (wide_lit (apply_lit by.now self.now)) (apply_lit by.now self.now) result }
-        ensures truth { IfOk result (λ l. (s : Assignment) → Truth s l ↔ Truth (under by.now s) self.now) }
+        ensures truth { IfOk result (λ l. TruthUnder by.now self.now l) }
     {
         Ok(match self {
             Lit::Eq(a, b) => Lit::Eq(a.apply(by)?, b.apply(by)?),

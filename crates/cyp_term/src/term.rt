@@ -3,9 +3,9 @@ ghost use Rattle.std.specs.Prelude.{negsuc, pos, ◌^◌, ◌-◌, ◌≤ℤ◌}
 ghost use Rattle.std.specs.List.{list_any};
 ghost use Rattle.cyp_term.specs.declared.fail.Fail.TheVariants.{Named};
 ghost use Rattle.cyp_term.specs.Answers.{AnswersUnless};
-ghost use Rattle.cyp_term.specs.Meaning.{Assignment, under, value};
 ghost use Rattle.cyp_term.specs.TermValue.{IsBase, IsTerm};
 ghost use Rattle.cyp_term.specs.Terms.{apply_term, plus, term_eq, wide_term};
+ghost use Rattle.cyp_term.specs.Under.{ValueUnder};
 
 use crate::copied::{Copied, Exact};
 use crate::fail::{Fail, NoMemory};
@@ -88,7 +88,7 @@ impl Term {
     /// the offsets passes 2^32 in size.
     pub fn apply(self, by: &Subst) -> Result<Term, TooWide>
         ensures gives { AnswersUnless (wide_term (apply_term by.now self)) (apply_term by.now self) result }
-        ensures value { IfOk result (λ t. (s : Assignment) → value s t ≡ value (under by.now s) self) }
+        ensures value { IfOk result (λ t. ValueUnder by.now self t) }
     {
         match self.base {
             Some(var) => match by.image(var) {

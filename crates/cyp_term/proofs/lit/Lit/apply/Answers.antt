@@ -7,4 +7,4 @@ use Rattle.cyp_term.proofs.lit.Lit.apply.Goals as goal
 pub returns-clause-truth : goal.returns-clause-truth
 returns-clause-truth c =
     let is : c.match-self.result ≡ apply_lit c.args.by.now c.args.self.now = grind (arith, common_steps) in
-    truth_of_applied c.args.by.now c.args.self.now c.match-self.result is
+    record { same = truth_of_applied c.args.by.now c.args.self.now c.match-self.result is }

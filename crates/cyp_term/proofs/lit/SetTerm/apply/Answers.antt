@@ -8,4 +8,4 @@ pub returns-clause-value : goal.returns-clause-value
 returns-clause-value c =
     let made : SetTerm = record { vars = c.in_ok-vars.vars; elems = c.in_ok-elems.elems } in
     let is : made ≡ apply_set c.args.by.now c.args.self.now = search rules in
-    λ s. value_of_applied c.args.by.now s c.args.self.now made is
+    record { same = λ s. value_of_applied c.args.by.now s c.args.self.now made is }
