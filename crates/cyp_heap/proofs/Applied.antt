@@ -6,7 +6,7 @@ use Rattle.std.proofs.lemmas.Bool.Decides.{Decides-int_eq}
 use Rattle.std.specs.List.{list_any}
 use Rattle.std.specs.Ordering.{int_eq}
 use Rattle.std.specs.Prelude.{IsTrue}
-use Rattle.cyp_heap.specs.Applied.{CardsUnder, MeansUnder, card_bare, cards_bare, has_base, is_bare}
+use Rattle.cyp_heap.specs.Applied.{ArgUnder, CardsUnder, MeansUnder, card_bare, cards_bare, has_base, is_bare}
 use Rattle.cyp_heap.specs.Assertions.{CardIs, CardsAre}
 use Rattle.cyp_heap.specs.Chunks.{apply_arg, apply_card, apply_chunk}
 use Rattle.cyp_heap.specs.Instances.{arg_value}
@@ -50,9 +50,13 @@ apply_chunks_law preds by s cs h ns = (
   side_chunks_same preds (under by s) s cs (map (apply_chunk by) cs) h ns (same_chunks_sym s (under by s) (map (apply_chunk by) cs) cs (chunks_applied by s cs)),
 )
 
+-- what is made by the substitution has the values of the argument under it
+pub arg_under : (by : Subst) (a b : Arg) → b ≡ apply_arg by a → ArgUnder by a b
+arg_under by a b e = record { same = λ s. rw e (arg_applied by s a) }
+
 -- what is made by the substitution means what the chunks mean under it
 pub means_under : (by : Subst) (cs ds : List Chunk) → ds ≡ map (apply_chunk by) cs → MeansUnder by cs ds
-means_under by cs ds e preds s h ns = rw e (apply_chunks_law preds by s cs h ns)
+means_under by cs ds e = record { same = λ preds s h ns. rw e (apply_chunks_law preds by s cs h ns) }
 
 -- ---- cardinalities
 
@@ -84,7 +88,7 @@ cards_same by s (Cell k ∷ cs) ns h = cards_same by s cs ns h
 
 -- what is made by the substitution has the cardinalities that the chunks have under it
 pub cards_under : (by : Subst) (cs ds : List Chunk) → ds ≡ map (apply_chunk by) cs → CardsUnder by cs ds
-cards_under by cs ds e bare s ns = rw e (cards_same by s cs ns bare)
+cards_under by cs ds e = record { same = λ bare s ns. rw e (cards_same by s cs ns bare) }
 
 -- ---- offsets
 

@@ -4,8 +4,10 @@ use Rattle.std.specs.List.{list_all}
 use Rattle.std.specs.Ordering.{int_eq}
 use Rattle.cyp_heap.specs.Assertions.{CardsAre}
 use Rattle.cyp_heap.specs.Chunks.{insts}
-use Rattle.cyp_heap.specs.Instances.{ChunksHold, InstanceHolds}
+use Rattle.cyp_heap.specs.Instances.{ChunksHold, InstanceHolds, arg_value}
+use Rattle.cyp_heap.specs.Laws.{SameArgValue}
 use Rattle.cyp_heap.specs.Stores.{Store}
+use Rattle.cyp_heap.specs.declared.chunk.Arg.{Arg}
 use Rattle.cyp_heap.specs.declared.chunk.Chunk.{Chunk}
 use Rattle.cyp_heap.specs.declared.chunk.InstOf.{InstOf}
 use Rattle.cyp_heap.specs.declared.pred.Preds.{Preds}
@@ -15,10 +17,13 @@ use Rattle.cyp_term.specs.declared.subst.Subst.{Subst}
 use Rattle.cyp_term.specs.declared.term.Term.{Term}
 use Rattle.cyp_term.specs.declared.term.Var.{Var}
 
+-- the second argument has in each assignment the value that the first one has under the substitution
+pub record ArgUnder (by : Subst) (a b : Arg) : Type 0 where
+  pub same : (s : Assignment) → SameArgValue (arg_value s b) (arg_value (under by s) a)
+
 -- the second chunks hold exactly where the first hold of the values that the substitution gives their variables
-abbrev pub MeansUnder : Subst → List Chunk → List Chunk → Type 0
-MeansUnder by cs ds =
-    (preds : Preds) (s : Assignment) (h : Store) (ns : List ℕ) → ChunksHold (InstanceHolds preds) s ds h ns ↔ ChunksHold (InstanceHolds preds) (under by s) cs h ns
+pub record MeansUnder (by : Subst) (cs ds : List Chunk) : Type 0 where
+  pub same : (preds : Preds) (s : Assignment) (h : Store) (ns : List ℕ) → ChunksHold (InstanceHolds preds) s ds h ns ↔ ChunksHold (InstanceHolds preds) (under by s) cs h ns
 
 -- the term has a base
 abbrev pub has_base : Option Var → Bool
@@ -40,5 +45,5 @@ abbrev pub cards_bare : Subst → List Chunk → Bool
 cards_bare by cs = list_all (λ (i : InstOf). card_bare by i.card) (insts cs)
 
 -- the cardinalities of the second chunks have these values exactly where those of the first have them under the substitution
-abbrev pub CardsUnder : Subst → List Chunk → List Chunk → Type 0
-CardsUnder by cs ds = IsTrue (cards_bare by cs) → (s : Assignment) (ns : List ℕ) → CardsAre s ds ns ↔ CardsAre (under by s) cs ns
+pub record CardsUnder (by : Subst) (cs ds : List Chunk) : Type 0 where
+  pub same : IsTrue (cards_bare by cs) → (s : Assignment) (ns : List ℕ) → CardsAre s ds ns ↔ CardsAre (under by s) cs ns
