@@ -59,9 +59,9 @@ impl SetTerm {
         self.elems.as_slice()
     }
 
-    /// The set term with each variable replaced by what its image brings, an unbound one by itself,
-    /// and with each element replaced by its image: first the images' elements and then its own, each part
-    /// once. It is `TooWide` exactly where an offset of an element passes 2^32 in size.
+    /// The set term with its variables and elements replaced by their images, each part once: first
+    /// what the variables' images bring, then the elements' images. It is `TooWide` exactly where an
+    /// element's offset passes 2^32 in size.
     pub fn apply(&self, alloc: Global, by: &Subst) -> Result<SetTerm, Fail<TooWide>>
         ensures gives { GivesUnless (wide_set (apply_set by.now self.now)) (apply_set by.now self.now) result }
         ensures value { IfOk result (λ u. MembersUnder by.now self.now u) }
@@ -171,8 +171,8 @@ impl Lit {
 }
 
 impl Lit {
-    /// The literal with the substitution applied to both sides. It is `TooWide` exactly where an offset in
-    /// it passes 2^32 in size.
+    /// The literal with the substitution applied to both sides. It is `TooWide` exactly where an
+    /// offset in it passes 2^32 in size.
     pub fn apply(&self, alloc: Global, by: &Subst) -> Result<Lit, Fail<TooWide>>
         ensures gives { GivesUnless (wide_lit (apply_lit by.now self.now)) (apply_lit by.now self.now) result }
         ensures truth { IfOk result (λ l. TruthUnder by.now self.now l) }
