@@ -6,7 +6,7 @@ use Rattle.cyp_term.specs.declared.term.Var.{Var}
 use Rattle.cyp_term.specs.declared.term.Term.{Term}
 use Rattle.cyp_term.specs.declared.lit.Lit.TheVariants.{Eq}
 use Rattle.cyp_term.specs.Terms.{term_eq, term_vars, var_eq, var_in}
-use Rattle.cyp_term.proofs.Tests.{Decides-no}
+use Rattle.cyp_term.proofs.Deciding.{Decides-no}
 use Rattle.cyp_term.proofs.Equality.{Decides-term_eq}
 use Rattle.cyp_step.specs.FlatRules.{has_exist}
 use Rattle.cyp_step.specs.Shown.{is_open, is_program_expr}

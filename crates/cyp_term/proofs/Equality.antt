@@ -6,7 +6,7 @@ use Rattle.cyp_term.specs.declared.term.Sort.TheVariants.{Int, Card, Set}
 use Rattle.cyp_term.specs.declared.term.Var.{Var}
 use Rattle.cyp_term.specs.declared.term.Term.{Term}
 use Rattle.cyp_term.specs.Terms.{sort_eq, var_eq, base_eq, term_eq}
-use Rattle.cyp_term.proofs.Tests.{Decides-yes, Decides-no}
+use Rattle.cyp_term.proofs.Deciding.{Decides-yes, Decides-no}
 
 pub Decides-sort_eq : (a b : Sort) → Decides (sort_eq a b) (a ≡ b)
 Decides-sort_eq Int Int = Decides-yes refl

@@ -1,4 +1,4 @@
-pub mod Tests
+pub mod Deciding
 pub mod Numbers
 pub mod Equality
 pub mod Lists

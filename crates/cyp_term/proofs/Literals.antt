@@ -11,7 +11,7 @@ use Rattle.cyp_term.specs.declared.lit.Lit.TheVariants.{Eq, Ne, Le, Lt, Same, No
 use Rattle.cyp_term.specs.Meaning.{Assignment, int_in, value, set_value, SameMembers, IsSubset, Truth, AllTrue}
 use Rattle.cyp_term.specs.Integers.{is_int_lit}
 use Rattle.cyp_term.specs.Regions.{term_at_value, set_at_values, lit_at_values}
-use Rattle.cyp_term.proofs.Tests.{not_iff}
+use Rattle.cyp_term.proofs.Deciding.{not_iff}
 use Rattle.cyp_term.proofs.Numbers.{zero-plus}
 use Rattle.cyp_term.proofs.Lists.{Among}
 use Rattle.cyp_term.proofs.Sets.{HaveSame, IsWithin, Decides-int_in, have_same, same_members, is_within, is_subset}

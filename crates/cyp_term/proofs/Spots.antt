@@ -11,7 +11,7 @@ use Rattle.cyp_term.specs.declared.lit.Lit.{Lit}
 use Rattle.cyp_term.specs.declared.lit.Lit.TheVariants.{Same, NotSame, Member, NotMember, Sub, NotSub}
 use Rattle.cyp_term.specs.Terms.{var_eq, term_eq, var_in}
 use Rattle.cyp_term.specs.Regions.{elem_terms, lit_set_vars, all_terms, all_set_vars, Spot, has_class, in_spot, allows}
-use Rattle.cyp_term.proofs.Tests.{Decides-beq, Decides-implies}
+use Rattle.cyp_term.proofs.Deciding.{Decides-beq, Decides-implies}
 use Rattle.cyp_term.proofs.Equality.{Decides-var_eq, Decides-term_eq}
 use Rattle.cyp_term.proofs.Lists.{Among, Among-left, Among-right, Among-cases, flat_in}
 use Rattle.cyp_term.proofs.Repeats.{without_repeats_in}

@@ -9,7 +9,7 @@ use Rattle.cyp_term.specs.declared.lit.Lit.TheVariants.{Eq, Ne, Le, Lt, Same, No
 use Rattle.cyp_term.specs.declared.subst.Subst.{Subst}
 use Rattle.cyp_term.specs.Terms.{var_eq, term_eq, int_image, set_image, term_at, term_base, apply_lit, apply_term, image_or_self, apply_set, without_repeats}
 use Rattle.cyp_term.specs.Meaning.{Assignment, int_in, value, set_value, SameMembers, IsSubset, image_value, image_members, under, Truth, ApplyLaw}
-use Rattle.cyp_term.proofs.Tests.{not_iff}
+use Rattle.cyp_term.proofs.Deciding.{not_iff}
 use Rattle.cyp_term.proofs.Numbers.{plus-plus}
 use Rattle.cyp_term.proofs.Equality.{Decides-var_eq, Decides-term_eq}
 use Rattle.cyp_term.proofs.Lists.{Among, Among-left, Among-right, Among-cases, Among-map, map_from, flat_in, flat_out}

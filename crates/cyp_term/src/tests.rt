@@ -1,8 +1,3 @@
-ghost use Rattle.std.specs.Prelude.{◌≡◌, None};
-ghost use Rattle.cyp_term.specs.SetTermValue.{AllSets};
-ghost use Rattle.cyp_term.specs.TermValue.{IsTerm};
-ghost use Rattle.cyp_term.specs.declared.term.Sort.TheVariants.{Set};
-
 use crate::list::List;
 use crate::lit::{Lit, SetTerm};
 use crate::subst::{IntBind, SetBind, Subst};
@@ -22,167 +17,242 @@ const Y: Var = Var {
     number: 1,
 };
 
-const Z: Var = Var {
-    sort: Sort::Int,
-    number: 2,
-};
-
 const N: Var = Var {
     sort: Sort::Card,
     number: 0,
 };
 
-fn set(number: u8) -> Var
-    ensures { result.sort ≡ Set }
-{
+fn number(offset: i32) -> Term {
+    Term::new(None, offset as i64)
+}
+
+fn x(offset: i32) -> Term {
+    Term::new(Some(X), offset as i64)
+}
+
+fn y(offset: i32) -> Term {
+    Term::new(Some(Y), offset as i64)
+}
+
+fn n(offset: i32) -> Term {
+    Term::new(Some(N), offset as i64)
+}
+
+fn most_above_y() -> Term {
+    Term::new(Some(Y), WIDEST)
+}
+
+fn most_below_y() -> Term {
+    Term::new(Some(Y), -WIDEST)
+}
+
+fn set(number: u8) -> Var {
     Var {
         sort: Sort::Set,
         number,
     }
 }
 
-fn number(offset: i64) -> Term
-    requires { IsTerm None offset }
-{
-    Term::new(None, offset)
+fn elements(alloc: Global, elems: &[Term]) -> Result<SetTerm, Fail> {
+    let elems = Vec::from_slice(alloc, elems)?;
+    let vars = List::from_vec(Vec::new(alloc));
+    Ok(SetTerm::new(vars, List::from_vec(elems)))
 }
 
-fn y_plus(offset: i64) -> Term
-    requires { IsTerm None offset }
-{
-    Term::new(Some(Y), offset)
+fn one_set(alloc: Global, a: u8, elems: &[Term]) -> Result<SetTerm, Fail> {
+    let elems = Vec::from_slice(alloc, elems)?;
+    let vars = Vec::from_slice(alloc, &[set(a)])?;
+    Ok(SetTerm::new(List::from_vec(vars), List::from_vec(elems)))
 }
 
-fn x_plus(offset: i64) -> Term
-    requires { IsTerm None offset }
-{
-    Term::new(Some(X), offset)
-}
-
-fn union(alloc: Global, vars: &[Var], elems: &[Term]) -> Result<SetTerm, Fail>
-    requires { AllSets vars.now }
-{
-    let vars = List::from_vec(Vec::from_slice(alloc, vars)?);
-    let elems = List::from_vec(Vec::from_slice(alloc, elems)?);
-    Ok(SetTerm::new(vars, elems))
+fn two_sets(alloc: Global, a: u8, b: u8, elems: &[Term]) -> Result<SetTerm, Fail> {
+    let elems = Vec::from_slice(alloc, elems)?;
+    let vars = Vec::from_slice(alloc, &[set(a), set(b)])?;
+    Ok(SetTerm::new(List::from_vec(vars), List::from_vec(elems)))
 }
 
 /// The substitution that binds variables to terms alone.
-fn ints(alloc: Global, binds: &[(Var, Term)]) -> Result<Subst, Fail> {
-    let mut ints = Vec::new(alloc);
-    for (var, to) in binds {
-        ints.push(IntBind { var: *var, to: *to })?;
-    }
+fn ints(alloc: Global, binds: &[IntBind]) -> Result<Subst, Fail> {
+    let ints = Vec::from_slice(alloc, binds)?;
     Ok(Subst {
         ints: List::from_vec(ints),
         sets: List::from_vec(Vec::new(alloc)),
     })
 }
 
+/// The substitution that besides binds a set variable, in this order.
+fn sets(alloc: Global, binds: &[IntBind], a: SetTerm, b: SetTerm) -> Result<Subst, Fail> {
+    let mut by = ints(alloc, binds)?;
+    let (var, to) = (set(0), a);
+    by.sets.push(alloc, SetBind { var, to })?;
+    let (var, to) = (set(0), b);
+    by.sets.push(alloc, SetBind { var, to })?;
+    Ok(by)
+}
+
 #[test]
 fn replaces_a_bound_variable_by_its_image(rt: HostRuntime) -> Result<(), Fail> {
     let alloc = rt.alloc();
-    let by = ints(alloc, &[(X, y_plus(2)), (N, y_plus(1))])?;
-    let lit = Lit::Eq(x_plus(0), number(1));
-    assert_eq!(rt; lit.apply(alloc, &by)?, Lit::Eq(y_plus(2), number(1)));
-    let lit = Lit::Lt(Term::new(Some(N), 0), y_plus(0));
-    assert_eq!(rt; lit.apply(alloc, &by)?, Lit::Lt(y_plus(1), y_plus(0)));
-    let by = ints(alloc, &[(X, y_plus(0))])?;
-    let single = union(alloc, &[], &[x_plus(0)])?;
-    assert_eq!(rt; single.apply(alloc, &by)?, union(alloc, &[], &[y_plus(0)])?);
+    let by = ints(
+        alloc,
+        &[IntBind { var: X, to: y(2) }, IntBind { var: N, to: y(1) }],
+    )?;
+    let lit = Lit::Eq(x(0), number(1));
+    assert_eq!(rt; lit.apply(alloc, &by)?, Lit::Eq(y(2), number(1)));
+    let lit = Lit::Lt(n(0), y(0));
+    assert_eq!(rt; lit.apply(alloc, &by)?, Lit::Lt(y(1), y(0)));
+    let single = elements(alloc, &[x(0)])?;
+    assert_eq!(rt; single.apply(alloc, &by)?, elements(alloc, &[y(2)])?);
     Ok(())
 }
 
 #[test]
 fn takes_the_first_entry_of_a_variable(rt: HostRuntime) -> Result<(), Fail> {
     let alloc = rt.alloc();
-    let mut by = ints(alloc, &[(Y, number(3)), (X, number(1)), (X, number(2))])?;
+    let binds = [
+        IntBind {
+            var: X,
+            to: number(1),
+        },
+        IntBind {
+            var: X,
+            to: number(2),
+        },
+    ];
+    let by = sets(
+        alloc,
+        &binds,
+        one_set(alloc, 1, &[])?,
+        one_set(alloc, 2, &[])?,
+    )?;
     assert_eq!(rt; by.image(X), Some(number(1)));
-    assert_eq!(rt; by.image(Z), None);
-    assert_eq!(rt; x_plus(5).apply(&by)?, number(6));
-    for to in [1, 2] {
-        let to = union(alloc, &[set(to)], &[])?;
-        by.sets.push(alloc, SetBind { var: set(0), to })?;
-    }
-    let bound = union(alloc, &[set(0)], &[])?;
-    assert_eq!(rt; bound.apply(alloc, &by)?, union(alloc, &[set(1)], &[])?);
+    assert_eq!(rt; by.image(Y), None);
+    assert_eq!(rt; x(5).apply(&by), Ok(number(6)));
+    let bound = one_set(alloc, 0, &[])?;
+    assert_eq!(rt; bound.apply(alloc, &by)?, one_set(alloc, 1, &[])?);
     assert!(rt; by.set_image(set(1)).is_none());
+    Ok(())
+}
+
+#[test]
+fn keeps_offsets_in_range(rt: HostRuntime) -> Result<(), Fail> {
+    let alloc = rt.alloc();
+    let by = ints(
+        alloc,
+        &[IntBind {
+            var: X,
+            to: most_above_y(),
+        }],
+    )?;
+    assert_eq!(rt; x(0).apply(&by), Ok(most_above_y()));
+    assert_eq!(rt; x(1).apply(&by), Err(TooWide));
+    let by = ints(
+        alloc,
+        &[IntBind {
+            var: X,
+            to: most_below_y(),
+        }],
+    )?;
+    assert_eq!(rt; x(0).apply(&by), Ok(most_below_y()));
+    assert_eq!(rt; x(-1).apply(&by), Err(TooWide));
     Ok(())
 }
 
 #[test]
 fn refuses_an_offset_past_the_range(rt: HostRuntime) -> Result<(), Fail> {
     let alloc = rt.alloc();
-    assert_eq!(rt; y_plus(WIDEST - 1).plus(1), Ok(y_plus(WIDEST)));
-    assert_eq!(rt; y_plus(WIDEST).plus(1), Err(TooWide));
-    assert_eq!(rt; y_plus(1 - WIDEST).plus(-1), Ok(y_plus(-WIDEST)));
-    assert_eq!(rt; y_plus(-WIDEST).plus(-1), Err(TooWide));
-    let by = ints(alloc, &[(X, y_plus(WIDEST))])?;
-    assert_eq!(rt; x_plus(0).apply(&by), Ok(y_plus(WIDEST)));
-    let lit = Lit::Eq(x_plus(1), number(1));
+    let by = ints(
+        alloc,
+        &[IntBind {
+            var: X,
+            to: most_above_y(),
+        }],
+    )?;
+    let lit = Lit::Eq(x(1), number(1));
     assert_eq!(rt; lit.apply(alloc, &by), Err(crate::Fail::Named(TooWide)));
-    let single = union(alloc, &[], &[x_plus(1)])?;
+    let single = elements(alloc, &[x(1)])?;
     assert_eq!(rt; single.apply(alloc, &by), Err(crate::Fail::Named(TooWide)));
-    let by = ints(alloc, &[(X, y_plus(-WIDEST))])?;
-    assert_eq!(rt; x_plus(0).apply(&by), Ok(y_plus(-WIDEST)));
-    assert_eq!(rt; x_plus(-1).apply(&by), Err(TooWide));
     Ok(())
 }
 
 #[test]
 fn puts_each_part_of_a_union_once(rt: HostRuntime) -> Result<(), Fail> {
     let alloc = rt.alloc();
-    let mut by = ints(alloc, &[(X, y_plus(0))])?;
-    let to = union(alloc, &[set(1)], &[y_plus(0)])?;
-    by.sets.push(alloc, SetBind { var: set(0), to })?;
-    let both = union(alloc, &[set(0)], &[x_plus(0)])?;
-    assert_eq!(rt;
-        both.apply(alloc, &by)?,
-        union(alloc, &[set(1)], &[y_plus(0)])?
-    );
+    let image = one_set(alloc, 1, &[y(0)])?;
+    let by = sets(
+        alloc,
+        &[IntBind { var: X, to: y(0) }],
+        image,
+        elements(alloc, &[])?,
+    )?;
+    let both = one_set(alloc, 0, &[x(0)])?;
+    assert_eq!(rt; both.apply(alloc, &by)?, one_set(alloc, 1, &[y(0)])?);
     Ok(())
 }
 
-/// The images' elements stand before the union's own, though an unbound variable stands first.
+/// The images' elements stand before the union's own, and an unbound variable in its place.
 #[test]
 fn puts_what_images_bring_first(rt: HostRuntime) -> Result<(), Fail> {
     let alloc = rt.alloc();
-    let mut by = ints(alloc, &[(X, y_plus(0))])?;
-    let to = union(alloc, &[set(1)], &[number(1), Term::new(Some(Z), 0)])?;
-    by.sets.push(alloc, SetBind { var: set(0), to })?;
-    let own = [x_plus(0), number(1), number(2)];
-    let all = union(alloc, &[set(2), set(0)], &own)?;
-    let elems = [number(1), Term::new(Some(Z), 0), y_plus(0), number(2)];
-    let wanted = union(alloc, &[set(2), set(1)], &elems)?;
-    assert_eq!(rt; all.apply(alloc, &by)?, wanted);
+    let image = one_set(alloc, 1, &[number(1), n(0)])?;
+    let by = sets(
+        alloc,
+        &[IntBind { var: X, to: y(0) }],
+        image,
+        elements(alloc, &[])?,
+    )?;
+    let union = two_sets(alloc, 2, 0, &[x(0), number(1), number(2)])?;
+    let wanted = two_sets(alloc, 2, 1, &[number(1), n(0), y(0), number(2)])?;
+    assert_eq!(rt; union.apply(alloc, &by)?, wanted);
+    Ok(())
+}
+
+fn is_negation(a: Lit, b: Lit) -> bool {
+    a.negated() == b
+}
+
+#[test]
+fn negates_comparisons_of_integers(rt: HostRuntime) {
+    assert!(rt; is_negation(Lit::Eq(x(0), y(1)), Lit::Ne(x(0), y(1))));
+    assert!(rt; is_negation(Lit::Ne(x(0), y(1)), Lit::Eq(x(0), y(1))));
+    assert!(rt; is_negation(Lit::Le(x(0), y(1)), Lit::Lt(y(1), x(0))));
+    assert!(rt; is_negation(Lit::Lt(x(0), y(1)), Lit::Le(y(1), x(0))));
+}
+
+/// The set terms `{1}` and `{2}`.
+fn sides(alloc: Global) -> Result<(SetTerm, SetTerm), Fail> {
+    Ok((
+        elements(alloc, &[number(1)])?,
+        elements(alloc, &[number(2)])?,
+    ))
+}
+
+#[test]
+fn negates_equality_of_sets(rt: HostRuntime) -> Result<(), Fail> {
+    let alloc = rt.alloc();
+    let ((a, b), (c, d)) = (sides(alloc)?, sides(alloc)?);
+    assert!(rt; is_negation(Lit::Same(a, b), Lit::NotSame(c, d)));
+    let ((a, b), (c, d)) = (sides(alloc)?, sides(alloc)?);
+    assert!(rt; is_negation(Lit::NotSame(a, b), Lit::Same(c, d)));
     Ok(())
 }
 
 #[test]
-fn negates_each_comparison_of_integers(rt: HostRuntime) {
-    let (a, b) = (x_plus(0), y_plus(1));
-    assert_eq!(rt; Lit::Eq(a, b).negated(), Lit::Ne(a, b));
-    assert_eq!(rt; Lit::Ne(a, b).negated(), Lit::Eq(a, b));
-    assert_eq!(rt; Lit::Le(a, b).negated(), Lit::Lt(b, a));
-    assert_eq!(rt; Lit::Lt(a, b).negated(), Lit::Le(b, a));
+fn negates_inclusion(rt: HostRuntime) -> Result<(), Fail> {
+    let alloc = rt.alloc();
+    let ((a, b), (c, d)) = (sides(alloc)?, sides(alloc)?);
+    assert!(rt; is_negation(Lit::Sub(a, b), Lit::NotSub(c, d)));
+    let ((a, b), (c, d)) = (sides(alloc)?, sides(alloc)?);
+    assert!(rt; is_negation(Lit::NotSub(a, b), Lit::Sub(c, d)));
+    Ok(())
 }
 
 #[test]
-fn negates_each_comparison_of_sets(rt: HostRuntime) -> Result<(), Fail> {
+fn negates_membership(rt: HostRuntime) -> Result<(), Fail> {
     let alloc = rt.alloc();
-    let a = |x: i8| union(alloc, &[], &[number(x as i64)]);
-    assert_eq!(rt;
-        Lit::Same(a(1)?, a(2)?).negated(),
-        Lit::NotSame(a(1)?, a(2)?)
-    );
-    assert_eq!(rt;
-        Lit::NotSame(a(1)?, a(2)?).negated(),
-        Lit::Same(a(1)?, a(2)?)
-    );
-    assert_eq!(rt; Lit::Sub(a(1)?, a(2)?).negated(), Lit::NotSub(a(1)?, a(2)?));
-    assert_eq!(rt; Lit::NotSub(a(1)?, a(2)?).negated(), Lit::Sub(a(1)?, a(2)?));
-    let x = x_plus(0);
-    assert_eq!(rt; Lit::Member(x, a(1)?).negated(), Lit::NotMember(x, a(1)?));
-    assert_eq!(rt; Lit::NotMember(x, a(1)?).negated(), Lit::Member(x, a(1)?));
+    let (a, b) = (one_set(alloc, 0, &[])?, one_set(alloc, 0, &[])?);
+    assert!(rt; is_negation(Lit::Member(x(0), a), Lit::NotMember(x(0), b)));
+    let (a, b) = (one_set(alloc, 0, &[])?, one_set(alloc, 0, &[])?);
+    assert!(rt; is_negation(Lit::NotMember(x(0), a), Lit::Member(x(0), b)));
     Ok(())
 }
