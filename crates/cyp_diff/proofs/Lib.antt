@@ -4,6 +4,7 @@ pub mod Counting
 pub mod Empty
 pub mod Heights
 pub mod Mapping
+pub mod Nearing
 pub mod Meeting
 pub mod Reading
 pub mod Solving

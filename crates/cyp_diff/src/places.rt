@@ -61,7 +61,7 @@ fn add_vars(vars: &mut Vec<Var>, lit: &Lit) -> Result<(), NoMemory>
 }
 
 /// The variables of the literals, in order of first occurrence.
-pub(crate) fn variables_of(alloc: Global, lits: &[Lit]) -> Result<Vec<Var>, NoMemory>
+pub fn variables_of(alloc: Global, lits: &[Lit]) -> Result<Vec<Var>, NoMemory>
     requires { AreInts lits.now }
     ensures { IfOk result (λ vs. vs.items ≡ variables lits.now) }
 {
