@@ -1,6 +1,7 @@
 pub mod Closing
 pub mod Coming
 pub mod Counting
+pub mod Crowding
 pub mod Empty
 pub mod Heights
 pub mod Mapping

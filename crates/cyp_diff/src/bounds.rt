@@ -11,7 +11,8 @@ use cyp_term::{Copied, List, NoMemory};
 use std::alloc::Global;
 use std::marker::Model;
 
-const WIDTH: usize = 40;
+/// How many entries a row has: as many as there may be places, in whole lanes.
+pub(crate) const WIDTH: usize = 40;
 
 const NONE: i64 = 1 << 60;
 
@@ -128,6 +129,14 @@ impl Bounds {
         let from = lift(&self.rows[j as usize]);
         close(&mut self.rows, i as usize, j as usize, &from, c);
         Adding::Added
+    }
+
+    /// How many places there are.
+    pub(crate) fn places(&self) -> u8
+        ensures value { result ≡ length self.now }
+        ensures few { result ≤ 33 }
+    {
+        self.rows.len() as u8
     }
 
     /// The least number that the integer at place `i`, less that at place `j`, is known to be at most; 2^60 where there is none.

@@ -2,6 +2,7 @@
 #![tactic(auto)]
 
 mod bounds;
+mod crowds;
 mod gaps;
 mod ints;
 mod places;
