@@ -1,4 +1,4 @@
-use Rattle.std.proofs.Common.{ℤ, pos, ◌+◌, ◌≤ℤ◌, ◌+ℤ◌, to_z, of_z, w64, sym, subst₂, ◌∙◌, arith}
+use Rattle.std.proofs.Common.{ℤ, pos, ◌+◌, ◌≤ℤ◌, to_z, of_z, w64, sym, subst₂, ◌∙◌, arith}
 use Rattle.std.proofs.lemmas.Int.{ints}
 use Rattle.cyp_diff.proofs.Crowding.{Gathers, gathers_one, gathers_more, one_more}
 use Rattle.cyp_diff.proofs.crowds.gathered.Goals.{then-kept-m, else-kept-m}

@@ -1,6 +1,5 @@
-use Rattle.std.proofs.Common.{◌≡◌, ◌⊎◌, inl, inr, ℤ, pos, ◌≤ℤ◌, ◌<ℤ◌, to_z, of_z, w64, rules, FitsSigned, sym, subst, ◌∙◌, arith}
+use Rattle.std.proofs.Common.{◌≡◌, inl, inr, pos, ◌≤ℤ◌, ◌<ℤ◌, to_z, of_z, w64, rules, FitsSigned, subst, ◌∙◌, arith}
 use Rattle.std.proofs.lemmas.Int.{ints, to_z-of_z}
-use Rattle.std.specs.Prelude.{IsTrue}
 use Rattle.cyp_diff.specs.Distances.{distance}
 use Rattle.cyp_diff.proofs.Crowding.{near_from, at_most}
 use Rattle.cyp_diff.proofs.crowds.is_near.Goals as goal

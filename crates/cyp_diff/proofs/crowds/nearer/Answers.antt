@@ -1,4 +1,4 @@
-use Rattle.std.proofs.Common.{◌≡◌, ℕ, Bool, false, IsTrue, List, get_or, to_z, of_z, w64, sym, subst, ◌∙◌}
+use Rattle.std.proofs.Common.{ℕ, false, IsTrue, get_or, to_z, of_z, w64, sym, subst, ◌∙◌}
 use Rattle.std.proofs.lemmas.Int.{to_z-of_z}
 use Rattle.cyp_diff.specs.Crowds.{AreNear}
 use Rattle.cyp_diff.proofs.Crowding.{get_or-false, set-holds}

@@ -1,4 +1,4 @@
-use Rattle.std.proofs.Common.{◌≡◌, ℕ, Bool, true, false, IsTrue, List, pos, get_or, sym, subst, ◌∙◌}
+use Rattle.std.proofs.Common.{ℕ, Bool, true, false, IsTrue, List, pos, get_or, sym, subst, ◌∙◌}
 use Rattle.cyp_diff.specs.Crowds.{AreDifferent}
 use Rattle.cyp_diff.proofs.Crowding.{get_or-false, set-holds}
 use Rattle.cyp_diff.proofs.crowds.partners.Goals.{in-Some, in_default}

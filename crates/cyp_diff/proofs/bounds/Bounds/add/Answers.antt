@@ -5,8 +5,8 @@ use Rattle.cyp_diff.specs.Relaxing.{HasRoom, IsThrough}
 use Rattle.cyp_diff.specs.Adding.{AddMeans}
 use Rattle.cyp_diff.specs.Closed.{AreBounds}
 use Rattle.cyp_diff.specs.Distances.{none, distance, IsRefused}
-use Rattle.cyp_diff.specs.declared.bounds.Adding.TheVariants.{Added, Contradiction}
-use Rattle.cyp_diff.proofs.Coming.{adding_means, bounds_still, closer_rows, length-closer_rows}
+use Rattle.cyp_diff.specs.declared.bounds.Adding.TheVariants.{Added}
+use Rattle.cyp_diff.proofs.Coming.{adding_means, bounds_still, closer_rows}
 use Rattle.cyp_diff.proofs.Reading.{nothing_new, refused, not_refused, room, modest, through, written, passed, at_most}
 use Rattle.cyp_diff.proofs.bounds.Bounds.add.Goals as goal
 
