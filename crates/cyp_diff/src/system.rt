@@ -8,8 +8,8 @@ ghost use Rattle.cyp_diff.specs.Systems.{AtMostMeans, EqMeans, GapMeans, IsBit, 
 
 use crate::bounds::{Adding, Bounds};
 use crate::gaps::{Gap, separate};
-use crate::places::place;
-use cyp_term::{List, Lit, NoMemory, Term, Var};
+use crate::places::{VarTable, place};
+use cyp_term::{List, Lit, NoMemory, Term};
 use std::alloc::Global;
 
 const WIDEST: i64 = 1 << 32;
@@ -27,7 +27,7 @@ fn at_most(bounds: &mut Bounds, i: u8, j: u8, c: i64) -> bool
     }
 }
 
-fn add_le(bounds: &mut Bounds, vars: &[Var], a: &Term, b: &Term, less: i64) -> bool
+fn add_le(bounds: &mut Bounds, vars: &VarTable, a: &Term, b: &Term, less: i64) -> bool
     requires few { length vars.now ≤ 32 }
     requires places { length bounds.old ≡ length vars.now + 1 }
     requires less { IsBit less }
@@ -40,7 +40,7 @@ fn add_le(bounds: &mut Bounds, vars: &[Var], a: &Term, b: &Term, less: i64) -> b
     at_most(bounds, place(vars, a), place(vars, b), c)
 }
 
-fn add_eq(bounds: &mut Bounds, vars: &[Var], a: &Term, b: &Term) -> bool
+fn add_eq(bounds: &mut Bounds, vars: &VarTable, a: &Term, b: &Term) -> bool
     requires few { length vars.now ≤ 32 }
     requires places { length bounds.old ≡ length vars.now + 1 }
     requires left { IsNarrow a.now.offset }
@@ -51,7 +51,7 @@ fn add_eq(bounds: &mut Bounds, vars: &[Var], a: &Term, b: &Term) -> bool
     add_le(bounds, vars, a, b, 0) && add_le(bounds, vars, b, a, 0)
 }
 
-fn gap_of(vars: &[Var], a: &Term, b: &Term) -> Gap
+fn gap_of(vars: &VarTable, a: &Term, b: &Term) -> Gap
     requires few { length vars.now ≤ 32 }
     requires left { IsNarrow a.now.offset }
     requires right { IsNarrow b.now.offset }
@@ -79,7 +79,7 @@ fn told(term: &Term) -> Result<(), NoMemory>
 fn add_lit(
     bounds: &mut Bounds,
     gaps: &mut Vec<Gap>,
-    vars: &[Var],
+    vars: &VarTable,
     lit: &Lit,
 ) -> Result<bool, NoMemory>
     requires few { length vars.now ≤ 32 }
@@ -117,7 +117,7 @@ fn add_lit(
 /// Integers at the places that make the literals hold.
 pub(crate) fn integers_of(
     alloc: Global,
-    vars: &[Var],
+    vars: &VarTable,
     lits: &[Lit],
 ) -> Result<Option<List<i64>>, NoMemory>
     requires few { length vars.now ≤ 32 }
