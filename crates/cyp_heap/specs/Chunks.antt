@@ -1,11 +1,11 @@
 -- Chunks of symbolic heaps: their variables, their order, substitution in them.
-use Rattle.std.specs.Prelude.{[], ◌++◌, Bool, List, None, Option, Some, cond, false, flat_map, map, nat_lt, suc, true, zero, ◌||◌, ℕ, ◌∷◌}
-use Rattle.std.specs.List.{list_any}
+use Rattle.std.specs.Prelude.{[], ◌&&◌, ◌++◌, Bool, List, None, Option, Some, cond, false, flat_map, map, nat_le, nat_lt, suc, true, zero, ◌||◌, ℕ, ◌∷◌}
+use Rattle.std.specs.List.{list_all, list_any}
+use Rattle.cyp_heap.specs.HeapValue.{HeapValue}
 use Rattle.cyp_heap.specs.declared.chunk.Arg.{Arg}
 use Rattle.cyp_heap.specs.declared.chunk.Arg.TheVariants.{Int as IntArg, Set as SetArg}
 use Rattle.cyp_heap.specs.declared.chunk.Chunk.{Chunk}
 use Rattle.cyp_heap.specs.declared.chunk.Chunk.TheVariants.{Block, Cell, Inst}
-use Rattle.cyp_heap.specs.declared.chunk.Heap.{Heap}
 use Rattle.cyp_heap.specs.declared.chunk.InstOf.{InstOf}
 use Rattle.cyp_term.specs.Terms.{apply_set, apply_term, apply_var, set_vars, term_vars, wide_set, wide_term}
 use Rattle.cyp_term.specs.declared.subst.Subst.{Subst}
@@ -51,6 +51,11 @@ kind_rank (Inst i) = 0
 kind_rank (Block k) = 1
 kind_rank (Cell k) = 2
 
+-- no chunk stands before one of an earlier kind: instances before blocks before cells
+abbrev pub in_order : List Chunk → Bool
+in_order [] = true
+in_order (c ∷ cs) = list_all (λ d. nat_le (kind_rank c) (kind_rank d)) cs && in_order cs
+
 -- the chunk stands after the last of its kind
 abbrev pub put : List Chunk → Chunk → List Chunk
 put [] c = c ∷ []
@@ -86,7 +91,7 @@ apply_chunk by (Block k) = Block (record { at = apply_term by k.at; size = k.siz
 apply_chunk by (Cell k) = Cell (record { at = apply_term by k.at; content = apply_term by k.content })
 
 -- the substitution in each chunk, in the same order
-abbrev pub apply_heap : Subst → Heap → Heap
+abbrev pub apply_heap : Subst → HeapValue → HeapValue
 apply_heap by h = record { chunks = map (apply_chunk by) h.chunks }
 
 -- ---- offsets past 2 ^ 32
