@@ -28,7 +28,11 @@ use Rattle.cyp_spec.specs.LimitFaults.{root_of}
 use Rattle.cyp_spec.specs.NameFaults.{name_faults}
 use Rattle.cyp_spec.specs.ReadTerms.{Scope, read_args, read_chunk, read_chunks, read_lits, sort_in}
 use Rattle.cyp_spec.specs.Specifications.{goal_scope, read_goal, read_tree, with_cards}
-use Rattle.cyp_spec.specs.Trees.{BlockOf, BodyTree, ChunkTree, InstanceOf, NamedCell, PredTree, TermCell, TextTree}
+use Rattle.cyp_spec.specs.declared.tree.BodyTree.{BodyTree}
+use Rattle.cyp_spec.specs.declared.tree.ChunkTree.{ChunkTree}
+use Rattle.cyp_spec.specs.declared.tree.ChunkTree.TheVariants.{BlockOf, InstanceOf, NamedCell, TermCell}
+use Rattle.cyp_spec.specs.declared.tree.PredTree.{PredTree}
+use Rattle.cyp_spec.specs.declared.tree.TextTree.{TextTree}
 use Rattle.cyp_spec.specs.Uses.{Use, arg_sorts, param_uses, use_of}
 use Rattle.cyp_spec.proofs.ClauseTerms.{SetVarIs, TermIs, Within, body_set_vars_are, body_terms_are, set_var_more, term_more}
 use Rattle.cyp_spec.proofs.FirstNames.{new_append}

@@ -14,7 +14,7 @@ use Rattle.cyp_spec.specs.NameFaults.{fault_at, name_faults}
 use Rattle.cyp_spec.specs.Reading.{IsReadBy, IsReadFrom, IsReading, IsReadingOf, least_fault, unless_fault}
 use Rattle.cyp_spec.specs.ReadingLaws.{ReadIsFormed, ReadIsRegular, ReadIsSorted, ReadPredsAreFormed}
 use Rattle.cyp_spec.specs.Specifications.{Specification, read_tree}
-use Rattle.cyp_spec.specs.Trees.{TextTree}
+use Rattle.cyp_spec.specs.declared.tree.TextTree.{TextTree}
 use Rattle.cyp_spec.proofs.FormedGoals.{formed}
 use Rattle.cyp_spec.proofs.FormedPreds.{formed_preds}
 use Rattle.cyp_spec.proofs.FormedInstances.{none_both, test_true}

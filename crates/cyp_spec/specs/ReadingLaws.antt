@@ -10,7 +10,7 @@ use Rattle.cyp_grammar.specs.Spelling.{Match}
 use Rattle.cyp_spec.specs.Grammar.{text_spelling}
 use Rattle.cyp_spec.specs.Reading.{IsReading}
 use Rattle.cyp_spec.specs.Specifications.{Specification}
-use Rattle.cyp_spec.specs.Trees.{TextTree}
+use Rattle.cyp_spec.specs.declared.tree.TextTree.{TextTree}
 
 -- lexemes spell at most one tree
 abbrev pub OneTree : Type 0
