@@ -13,6 +13,8 @@ mod shared;
 mod steps;
 mod subst;
 mod term;
+#[cfg(test)]
+mod tests;
 
 pub use copied::{Copied, Exact};
 pub use fail::{Fail, NoMemory};

@@ -3,7 +3,7 @@ ghost use Rattle.std.specs.List.{list_any};
 ghost use Rattle.cyp_term.specs.Answers.{GivesUnless};
 ghost use Rattle.cyp_term.specs.Images.{image_elems, image_of, image_vars};
 ghost use Rattle.cyp_term.specs.Meaning.{Assignment, SameMembers, Truth, set_value, under};
-ghost use Rattle.cyp_term.specs.Terms.{apply_set, negated, term_eq, var_eq, wide_set, wide_term, with_all_new, without_repeats};
+ghost use Rattle.cyp_term.specs.Terms.{apply_lit, apply_set, negated, term_eq, var_eq, wide_lit, wide_set, wide_term, with_all_new, without_repeats};
 ghost use Rattle.cyp_term.specs.declared.term.Sort.TheVariants.{Set};
 ghost use Rattle.cyp_term.specs.SetTermValue.{AllSets};
 
@@ -59,9 +59,9 @@ impl SetTerm {
         self.elems.as_slice()
     }
 
-    /// The set term with each variable replaced by what its image brings, an unbound one by itself,
-    /// and with each element replaced by its image: first the images' elements and then its own, each part
-    /// once. It is `TooWide` exactly where an offset of an element passes 2^32 in size.
+    /// The set term with its variables and elements replaced by their images, each part once: first
+    /// what the variables' images bring, then the elements' images. It is `TooWide` exactly where an
+    /// element's offset passes 2^32 in size.
     pub fn apply(&self, alloc: Global, by: &Subst) -> Result<SetTerm, Fail<TooWide>>
         ensures gives { GivesUnless (wide_set (apply_set by.now self.now)) (apply_set by.now self.now) result }
         ensures value { IfOk result (λ u. (s : Assignment) → SameMembers (set_value s u) (set_value (under by.now s) self.now)) }
@@ -167,6 +167,28 @@ impl Lit {
             Lit::Sub(a, b) => Lit::NotSub(a, b),
             Lit::NotSub(a, b) => Lit::Sub(a, b),
         }
+    }
+}
+
+impl Lit {
+    /// The literal with the substitution applied to both sides. It is `TooWide` exactly where an
+    /// offset in it passes 2^32 in size.
+    pub fn apply(&self, alloc: Global, by: &Subst) -> Result<Lit, Fail<TooWide>>
+        ensures gives { GivesUnless (wide_lit (apply_lit by.now self.now)) (apply_lit by.now self.now) result }
+        ensures truth { IfOk result (λ l. (s : Assignment) → Truth s l ↔ Truth (under by.now s) self.now) }
+    {
+        Ok(match self {
+            Lit::Eq(a, b) => Lit::Eq(a.apply(by)?, b.apply(by)?),
+            Lit::Ne(a, b) => Lit::Ne(a.apply(by)?, b.apply(by)?),
+            Lit::Le(a, b) => Lit::Le(a.apply(by)?, b.apply(by)?),
+            Lit::Lt(a, b) => Lit::Lt(a.apply(by)?, b.apply(by)?),
+            Lit::Same(a, b) => Lit::Same(a.apply(alloc, by)?, b.apply(alloc, by)?),
+            Lit::NotSame(a, b) => Lit::NotSame(a.apply(alloc, by)?, b.apply(alloc, by)?),
+            Lit::Member(a, b) => Lit::Member(a.apply(by)?, b.apply(alloc, by)?),
+            Lit::NotMember(a, b) => Lit::NotMember(a.apply(by)?, b.apply(alloc, by)?),
+            Lit::Sub(a, b) => Lit::Sub(a.apply(alloc, by)?, b.apply(alloc, by)?),
+            Lit::NotSub(a, b) => Lit::NotSub(a.apply(alloc, by)?, b.apply(alloc, by)?),
+        })
     }
 }
 

@@ -1,4 +1,4 @@
-use Rattle.std.proofs.Common.{rules, ◌≡◌, ap, ◌∙◌}
+use Rattle.std.proofs.Common.{◌≡◌, ap, ◌∙◌}
 use Rattle.std.proofs.lemmas.Result.{err_from_is_err_and}
 use Rattle.cyp_term.proofs.Wide.{narrow_images, none_left, none_wide, own_left, wide_here}
 use Rattle.cyp_term.proofs.lit.SetTerm.applied_elems.Goals as goal

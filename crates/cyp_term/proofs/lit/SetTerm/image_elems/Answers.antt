@@ -1,8 +1,6 @@
 use Rattle.std.proofs.Common.{refl}
-use Rattle.std.specs.List.{list_any}
 use Rattle.cyp_term.specs.Images.{image_elems, image_of}
 use Rattle.cyp_term.specs.Terms.{term_eq, wide_term}
-use Rattle.cyp_term.specs.declared.lit.SetTerm.{SetTerm}
 use Rattle.cyp_term.proofs.Turns.{added_turn, untold_turn}
 use Rattle.cyp_term.proofs.lit.SetTerm.image_elems.Goals as goal
 
