@@ -1,5 +1,5 @@
 -- Chunks of symbolic heaps: their variables, their order, substitution in them.
-use Rattle.std.specs.Prelude.{[], ◌&&◌, ◌++◌, Bool, List, None, Option, Some, cond, false, flat_map, map, nat_le, nat_lt, suc, true, zero, ◌||◌, ℕ, ◌∷◌}
+use Rattle.std.specs.Prelude.{[], ◌&&◌, ◌++◌, Bool, List, None, Option, Some, cond, false, flat_map, map, nat_le, nat_lt, slice_get, suc, true, zero, ◌||◌, ℕ, ◌∷◌}
 use Rattle.std.specs.List.{list_all, list_any}
 use Rattle.cyp_heap.specs.HeapValue.{HeapValue}
 use Rattle.cyp_heap.specs.declared.chunk.Arg.{Arg}
@@ -9,6 +9,7 @@ use Rattle.cyp_heap.specs.declared.chunk.Chunk.TheVariants.{Block, Cell, Inst}
 use Rattle.cyp_heap.specs.declared.chunk.InstOf.{InstOf}
 use Rattle.cyp_term.specs.Terms.{apply_set, apply_term, apply_var, set_vars, term_vars, wide_set, wide_term}
 use Rattle.cyp_term.specs.declared.subst.Subst.{Subst}
+use Rattle.cyp_term.specs.declared.term.Term.{Term}
 use Rattle.cyp_term.specs.declared.term.Var.{Var}
 
 -- the cardinality of an instance as a list, empty where it has none
@@ -56,6 +57,10 @@ abbrev pub in_order : List Chunk → Bool
 in_order [] = true
 in_order (c ∷ cs) = list_all (λ d. nat_le (kind_rank c) (kind_rank d)) cs && in_order cs
 
+-- the second chunk is of a later kind than the first
+abbrev pub is_later : Chunk → Chunk → Bool
+is_later c d = nat_lt (kind_rank c) (kind_rank d)
+
 -- the chunk stands after the last of its kind
 abbrev pub put : List Chunk → Chunk → List Chunk
 put [] c = c ∷ []
@@ -71,6 +76,26 @@ abbrev pub without : {A : Type 0} → List A → ℕ → List A
 without [] k = []
 without (x ∷ xs) zero = xs
 without (x ∷ xs) (suc k) = x ∷ without xs k
+
+-- there is a chunk, and it is a cell
+abbrev pub some_cell : Option Chunk → Bool
+some_cell (Some (Cell k)) = true
+some_cell _ = false
+
+-- a cell stands at the place
+abbrev pub is_cell_at : List Chunk → ℕ → Bool
+is_cell_at cs k = some_cell (slice_get cs k)
+
+-- a cell gets the content and keeps its address; other chunks stay
+abbrev pub chunk_with : Term → Chunk → Chunk
+chunk_with t (Cell k) = Cell (record { at = k.at; content = t })
+chunk_with t c = c
+
+-- the cell at the place gets the content, all else stays
+abbrev pub with_content : List Chunk → ℕ → Term → List Chunk
+with_content [] k t = []
+with_content (c ∷ cs) zero t = chunk_with t c ∷ cs
+with_content (c ∷ cs) (suc k) t = c ∷ with_content cs k t
 
 -- ---- substitution
 

@@ -1,6 +1,7 @@
 pub mod BlockValue
 pub mod HeapValue
 pub mod Chunks
+pub mod Puts
 pub mod PredsValue
 pub mod NodeValue
 pub mod Goals
@@ -11,6 +12,7 @@ pub mod Instances
 pub mod Assertions
 pub mod PredsFormed
 pub mod Keeps
+pub mod Applied
 pub mod Laws
 pub mod ExactChunks
 pub mod ExactNodes
