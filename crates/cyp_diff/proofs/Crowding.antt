@@ -149,15 +149,15 @@ lowest x most m (q ∷ ms) n = pick (lowest x most q ms n.1) where
   pick : Lowest x most (q ∷ ms) → Lowest x most (m ∷ q ∷ ms)
   pick l = elim (le_cases l.low (x m)) [
     | inl le ↦ record {
-        low = l.low;
-        in_range = All-more (λ p. (l.low ≤ℤ x p) × (x p ≤ℤ (l.low +ℤ pos most))) m (q ∷ ms) (le, up l) l.in_range;
-        also = λ z h. l.also z (λ k d lt. h (suc k) d (omega arith));
-      }
+      low = l.low;
+      in_range = All-more (λ p. (l.low ≤ℤ x p) × (x p ≤ℤ (l.low +ℤ pos most))) m (q ∷ ms) (le, up l) l.in_range;
+      also = λ z h. l.also z (λ k d lt. h (suc k) d (omega arith));
+    }
     | inr lt ↦ record {
-        low = x m;
-        in_range = All-more (λ p. (x m ≤ℤ x p) × (x p ≤ℤ (x m +ℤ pos most))) m (q ∷ ms) (omega (arith, ints), omega (arith, ints)) (down l lt);
-        also = λ z h. h 0 m (omega arith);
-      }
+      low = x m;
+      in_range = All-more (λ p. (x m ≤ℤ x p) × (x p ≤ℤ (x m +ℤ pos most))) m (q ∷ ms) (omega (arith, ints), omega (arith, ints)) (down l lt);
+      also = λ z h. h 0 m (omega arith);
+    }
   ]
 
 too_many : (x : ℕ → ℤ) (most : ℕ) (ms : List ℕ) → Near x (pos most) ms → length ms ≤ suc most

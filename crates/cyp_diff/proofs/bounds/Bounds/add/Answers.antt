@@ -40,7 +40,7 @@ close-requires-clause-through c =
     let second : c.args.j < length c.self.inside.rows.items = omega (arith, ap length c.self.view_is) in
     subst (λ rows. All (IsThrough c.args.i c.args.j (to_z w64 (of_z w64 c.args.c)) c.lift-from.result) rows) (sym c.deref_mut.ensures.value)
     (subst₂ (λ z from. All (IsThrough c.args.i c.args.j z from) c.self.inside.rows.items) (sym (passed c.args.c c.requires.small)) (sym c.lift-from.ensures)
-        (through c.self.inside.rows.items c.index.result.now c.args.i c.args.j c.args.c c.self.invariant first second c.requires.small c.index.ensures))
+    (through c.self.inside.rows.items c.index.result.now c.args.i c.args.j c.args.c c.self.invariant first second c.requires.small c.index.ensures))
 
 no_cycle : (c : goal.After-self-1) → distance c.self.inside.rows.items c.args.j c.args.i <ℤ none → pos 0 ≤ℤ (distance c.self.inside.rows.items c.args.j c.args.i +ℤ c.args.c)
 no_cycle c =
