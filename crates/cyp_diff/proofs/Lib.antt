@@ -1,9 +1,11 @@
 pub mod Closing
 pub mod Coming
 pub mod Counting
+pub mod Crowding
 pub mod Empty
 pub mod Heights
 pub mod Mapping
+pub mod Nearing
 pub mod Meeting
 pub mod Reading
 pub mod Solving

@@ -3,17 +3,18 @@ use Rattle.std.proofs.Common.{◌≡◌, ◌⊎◌, inl, inr, ℕ, zero, suc, �
 use Rattle.std.proofs.lemmas.Int.{ints, to_z-of_z}
 use Rattle.std.proofs.Math.ListN.{set}
 use Rattle.std.specs.List.{All}
-use lib.Signed.{lt_z, mag}
+use lib.Signed.{le_z, mag}
 use Rattle.cyp_lanes.specs.Rows.{IsModest}
-use Rattle.cyp_diff.specs.Distances.{none, distance, IsSmall}
-use Rattle.cyp_diff.specs.Relaxing.{lifted, closer, HasRoom}
+use Rattle.cyp_diff.specs.Distances.{none, distance, IsDistance, IsRefused, IsSmall}
+use Rattle.cyp_diff.specs.Relaxing.{lifted, closer, HasRoom, IsThrough}
+use Rattle.cyp_diff.specs.Solution.{least}
 use Rattle.cyp_diff.specs.Closed.{AreBounds}
 use Rattle.cyp_diff.specs.Adding.{AddMeans}
-use Rattle.cyp_diff.specs.declared.bounds.Adding.TheVariants.{Contradiction}
-use Rattle.cyp_diff.proofs.Closing.{distance_least}
+use Rattle.cyp_diff.specs.declared.bounds.Adding.TheVariants.{Added, Contradiction}
+use Rattle.cyp_diff.proofs.Closing.{distance_least, distance_most}
 use Rattle.cyp_diff.proofs.Coming.{closer_rows, length_map}
 use Rattle.cyp_diff.proofs.Mapping.{mapped_to, set-mapped, get_or-mapped, get_or-any}
-use Rattle.cyp_diff.proofs.Meeting.{meets_none}
+use Rattle.cyp_diff.proofs.Meeting.{meets_none, solution_meets}
 
 pub distance_read : (rows : List (List ℤ)) (row : List ℤ) (i j : ℕ) (d : ℤ) → AreBounds rows → i < 40 → j < length rows → row ≡ get_or rows j row → get_or row i d ≡ distance rows j i
 distance_read rows row i j d h li lj e =
@@ -77,11 +78,72 @@ modest rows row j h lj e k d lk =
     let value : get_or (map lifted row) k d ≡ lifted (distance rows j k) = get_or-map_in lifted row k d none lk' ∙ ap (λ r. lifted (get_or r k none)) row' in
     subst IsModest (sym value) (modest_by (distance rows j k) (h.closed.most j k) (distance_room rows j k h lj) (int_lt (distance rows j k) none) refl)
 
+-- ---- no way through the new bound is less where place j is no farther by it
+through_entry : (z p q w c t : ℤ) → z ≤ℤ none → p <ℤ none → p ≤ℤ pos (33 * 2 ^ 34) → c ≤ℤ pos (2 ^ 34) → q ≤ℤ (p +ℤ c) → (q <ℤ none → neg_ℤ q ≤ℤ pos (33 * 2 ^ 34)) → (q <ℤ none → w <ℤ none → z ≤ℤ (q +ℤ w)) → (b : Bool) → int_lt w none ≡ b → t ≡ cond b w (pos (2 ^ 61)) → z ≤ℤ (t +ℤ (p +ℤ c))
+through_entry z p q w c t m f l s n r h true e g =
+    let fq : q <ℤ none = omega (arith, ints) in
+    let fw : w <ℤ none = lt_from w none e in
+    let k : z ≤ℤ (q +ℤ w) = h fq fw in
+    let g' : t ≡ w = g in
+    omega (arith, ints)
+  where
+    lt_from : (a b : ℤ) → int_lt a b ≡ true → a <ℤ b
+    lt_from a b e = grind (arith, ints)
+through_entry z p q w c t m f l s n r h false e g =
+    let fq : q <ℤ none = omega (arith, ints) in
+    let k : neg_ℤ q ≤ℤ pos (33 * 2 ^ 34) = r fq in
+    let g' : t ≡ pos (2 ^ 61) = g in
+    omega (arith, ints)
+
+through_at : (rows : List (List ℤ)) (i j a k : ℕ) (c : ℤ) → AreBounds rows → i < length rows → j < length rows → a < length rows → IsSmall c → distance rows a i <ℤ none → distance rows a j ≤ℤ (distance rows a i +ℤ c) → k < 40 →
+    distance rows a k ≤ℤ (get_or (map lifted (get_or rows j [])) k none +ℤ (distance rows a i +ℤ c))
+through_at rows i j a k c h li lj la s f n lk =
+    let t : get_or (map lifted (get_or rows j [])) k none ≡ lifted (distance rows j k) = get_or-map_in lifted (get_or rows j []) k none none (omega (arith, h.wide j [] lj)) in
+    through_entry (distance rows a k) (distance rows a i) (distance rows a j) (distance rows j k) c (get_or (map lifted (get_or rows j [])) k none)
+    (h.closed.most a k) f (distance_most (length rows) (distance rows) a i h.closed h.few la li f) s.most n (distance_room rows a j h la) by_way (int_lt (distance rows j k) none) refl t
+  where
+    by_way : distance rows a j <ℤ none → distance rows j k <ℤ none → distance rows a k ≤ℤ (distance rows a j +ℤ distance rows j k)
+    by_way p q = elim (lt_or_le k (length rows)) [
+      | inl lt ↦ (h.closed.through a j k la lj lt p q).1
+      | inr le ↦ let e : distance rows j k ≡ none = h.closed.beyond j k le in absurd (omega (arith, ints))
+    ]
+
+pub through : (rows : List (List ℤ)) (row : List ℤ) (i j : ℕ) (c : ℤ) → AreBounds rows → i < length rows → j < length rows → IsSmall c → row ≡ get_or rows j row → All (IsThrough i j c (map lifted row)) rows
+through rows row i j c h li lj s e a d la = λ f n k lk.
+    let here : get_or rows a d ≡ get_or rows a [] = get_or-any rows a d [] la in
+    let row' : row ≡ get_or rows j [] = e ∙ get_or-any rows j row [] lj in
+    let t : distance rows a k ≤ℤ (get_or (map lifted (get_or rows j [])) k none +ℤ (distance rows a i +ℤ c)) =
+    through_at rows i j a k c h li lj la s (subst (λ r. get_or r i none <ℤ none) here f) (subst (λ r. get_or r j none ≤ℤ (get_or r i none +ℤ c)) here n) lk in
+    subst (λ r. get_or r k none ≤ℤ (get_or (map lifted row) k none +ℤ (get_or r i none +ℤ c))) (sym here)
+    (subst (λ r. distance rows a k ≤ℤ (get_or (map lifted r) k none +ℤ (distance rows a i +ℤ c))) (sym row') t)
+
 -- ---- answers
 
--- what is compared: the sum of the distance back and the bound
-abbrev sum_back : ℤ → ℤ → ℤ
-sum_back z c = to_z w64 (of_z w64 (to_z w64 (of_z w64 z) +ℤ to_z w64 (of_z w64 c)))
+-- where the bound is told already
+pub nothing_new : (rows : List (List ℤ)) (i j : ℕ) (c : ℤ) → AreBounds rows → i < length rows → j < length rows → IsSmall c → distance rows i j ≤ℤ c → AddMeans i j c rows rows Added
+nothing_new rows i j c h li lj s le =
+    let m = s.most in
+    let fin : distance rows i j <ℤ none = omega (arith, ints) in (
+      λ x. (λ k. (k, let w : x i ≤ℤ (x j +ℤ distance rows i j) = k i j li lj fin in omega (arith, ints)), λ k. k.0),
+      ((λ p. least (distance rows p) (length rows)), solution_meets (length rows) (length rows) (distance rows) (omega arith) h.closed),
+    )
+
+-- where the distance back refuses it
+pub refused : (rows : List (List ℤ)) (i j : ℕ) (c : ℤ) → i < length rows → j < length rows → IsRefused rows i j c → AddMeans i j c rows rows Contradiction
+refused rows i j c li lj h = (refl, λ x m w. meets_none (length rows) (distance rows) i j c li lj h.0 h.1 x m w)
+
+-- no cycle below zero, where it doesn't
+pub not_refused : (rows : List (List ℤ)) (i j : ℕ) (c : ℤ) → (IsRefused rows i j c → ⊥) → distance rows j i <ℤ none → pos 0 ≤ℤ (distance rows j i +ℤ c)
+not_refused rows i j c h f = elim (lt_cases (distance rows j i +ℤ c) (pos 0)) [ inl k ↦ absurd (h (f, k)) | inr k ↦ k ]
+
+-- a distance that was read is in its range
+pub range_read : (rows : List (List ℤ)) (row : List ℤ) (i j : ℕ) → AreBounds rows → i < length rows → j < length rows → row ≡ get_or rows i row → FitsSigned w64 (get_or row j (pos 0)) → IsDistance (to_z w64 (of_z w64 (get_or row j (pos 0))))
+range_read rows row i j h li lj e f = subst IsDistance (sym (to_z-of_z w64 (get_or row j (pos 0)) f ∙ distance_read rows row j i (pos 0) h (omega (arith, h.few)) li e)) (range (distance rows i j) (h.closed.most i j) (distance_room rows i j h li)) where
+  range : (z : ℤ) → z ≤ℤ none → (z <ℤ none → neg_ℤ z ≤ℤ pos (33 * 2 ^ 34)) → IsDistance z
+  range z m k = elim (lt_cases z none) [
+    | inl l ↦ let g : neg_ℤ z ≤ℤ pos (33 * 2 ^ 34) = k l in record { least = omega (arith, ints); most = m }
+    | inr l ↦ record { least = omega (arith, ints); most = m }
+  ]
 
 mag_from : (z : ℤ) (n : ℕ) → (neg_ℤ (pos n)) ≤ℤ z → z ≤ℤ pos n → mag z ≤ n
 mag_from (pos m) n l h = omega (arith, ints)
@@ -90,54 +152,15 @@ mag_from (negsuc m) n l h = omega (arith, ints)
 small_fits : (c : ℤ) → IsSmall c → FitsSigned w64 c
 small_fits c s = record { sfits = omega (arith, mag_from c (2 ^ 34) (omega (arith, ints)) (omega (arith, ints))) }
 
-sum_fits : (z c : ℤ) → IsSmall c → neg_ℤ z ≤ℤ pos (33 * 2 ^ 34) → z <ℤ none → FitsSigned w64 (z +ℤ c)
-sum_fits z c s l h = record { sfits = omega (arith, mag_from (z +ℤ c) (2 ^ 61) (omega (arith, ints)) (omega (arith, ints))) }
+-- a number that is passed on
+pub passed : (c : ℤ) → IsSmall c → to_z w64 (of_z w64 c) ≡ c
+passed c s = to_z-of_z w64 c (small_fits c s)
 
-lt_z_true : (a b : ℤ) → lt_z a b ≡ true → a <ℤ b
-lt_z_true a b e = grind (arith, ints)
-
-lt_z_false : (a b : ℤ) → lt_z a b ≡ false → b ≤ℤ a
-lt_z_false a b e = grind (arith, ints)
-
--- where the distance back is read from the row
-pub record Reads (rows : List (List ℤ)) (row : List ℤ) (i j : ℕ) (c : ℤ) : Type 0 where
-  pub bounds : AreBounds rows
-  pub first : i < length rows
-  pub second : j < length rows
-  pub small : IsSmall c
-  pub is_row : row ≡ get_or rows j row
-  pub fits : FitsSigned w64 (get_or row i (pos 0))
-
-back_is : (rows : List (List ℤ)) (row : List ℤ) (i j : ℕ) (c : ℤ) → Reads rows row i j c → to_z w64 (of_z w64 (get_or row i (pos 0))) ≡ distance rows j i
-back_is rows row i j c r = to_z-of_z w64 (get_or row i (pos 0)) r.fits ∙ distance_read rows row i j (pos 0) r.bounds (omega (arith, r.bounds.few)) r.second r.is_row
-
-back_bounds : (rows : List (List ℤ)) (row : List ℤ) (i j : ℕ) (c : ℤ) → Reads rows row i j c → lt_z (to_z w64 (of_z w64 (get_or row i (pos 0)))) none ≡ true → distance rows j i <ℤ none
-back_bounds rows row i j c r e = subst (λ z. z <ℤ none) (back_is rows row i j c r) (lt_z_true (to_z w64 (of_z w64 (get_or row i (pos 0)))) none e)
-
-pub back_fits : (rows : List (List ℤ)) (row : List ℤ) (i j : ℕ) (c : ℤ) → Reads rows row i j c → lt_z (to_z w64 (of_z w64 (get_or row i (pos 0)))) none ≡ true → FitsSigned w64 (to_z w64 (of_z w64 (get_or row i (pos 0))) +ℤ to_z w64 (of_z w64 c))
-back_fits rows row i j c r e =
-    let fin : distance rows j i <ℤ none = back_bounds rows row i j c r e in
-    subst (λ z. FitsSigned w64 z) (sym (ap₂ (λ x y. x +ℤ y) (back_is rows row i j c r) (to_z-of_z w64 c (small_fits c r.small))))
-    (sum_fits (distance rows j i) c r.small (distance_room rows j i r.bounds r.second fin) fin)
-
-sum_is : (rows : List (List ℤ)) (row : List ℤ) (i j : ℕ) (c : ℤ) → Reads rows row i j c → lt_z (to_z w64 (of_z w64 (get_or row i (pos 0)))) none ≡ true → sum_back (get_or row i (pos 0)) c ≡ (distance rows j i +ℤ c)
-sum_is rows row i j c r e = to_z-of_z w64 _ (back_fits rows row i j c r e) ∙ ap₂ (λ x y. x +ℤ y) (back_is rows row i j c r) (to_z-of_z w64 c (small_fits c r.small))
-
-pub refused : (rows : List (List ℤ)) (row : List ℤ) (i j : ℕ) (c : ℤ) → Reads rows row i j c → lt_z (to_z w64 (of_z w64 (get_or row i (pos 0)))) none ≡ true → lt_z (sum_back (get_or row i (pos 0)) c) (pos 0) ≡ true → AddMeans i j c rows rows Contradiction
-refused rows row i j c r e f = (
-  refl,
-  λ x m w. meets_none (length rows) (distance rows) i j c r.first r.second (back_bounds rows row i j c r e)
-      (subst (λ z. z <ℤ pos 0) (sum_is rows row i j c r e) (lt_z_true (sum_back (get_or row i (pos 0)) c) (pos 0) f)) x m w,
-)
-
--- no cycle below zero, as one of the two tests says
-pub far_back : (rows : List (List ℤ)) (row : List ℤ) (i j : ℕ) (c : ℤ) → Reads rows row i j c → lt_z (to_z w64 (of_z w64 (get_or row i (pos 0)))) none ≡ false → distance rows j i <ℤ none → pos 0 ≤ℤ (distance rows j i +ℤ c)
-far_back rows row i j c r e f =
-    let k : none ≤ℤ distance rows j i = subst (λ z. none ≤ℤ z) (back_is rows row i j c r) (lt_z_false (to_z w64 (of_z w64 (get_or row i (pos 0)))) none e) in
-    absurd (omega (arith, ints))
-
-pub long_back : (rows : List (List ℤ)) (row : List ℤ) (i j : ℕ) (c : ℤ) → Reads rows row i j c → lt_z (to_z w64 (of_z w64 (get_or row i (pos 0)))) none ≡ true → lt_z (sum_back (get_or row i (pos 0)) c) (pos 0) ≡ false → distance rows j i <ℤ none → pos 0 ≤ℤ (distance rows j i +ℤ c)
-long_back rows row i j c r e f g = subst (λ z. pos 0 ≤ℤ z) (sum_is rows row i j c r e) (lt_z_false (sum_back (get_or row i (pos 0)) c) (pos 0) f)
+-- a distance that is read and at most c
+pub at_most : (z c : ℤ) → FitsSigned w64 z → IsSmall c → le_z (to_z w64 (of_z w64 z)) (to_z w64 (of_z w64 c)) ≡ true → z ≤ℤ c
+at_most z c f s e = subst (λ y. y ≤ℤ c) (to_z-of_z w64 z f) (subst (λ y. to_z w64 (of_z w64 z) ≤ℤ y) (passed c s) (le_z_true (to_z w64 (of_z w64 z)) (to_z w64 (of_z w64 c)) e)) where
+  le_z_true : (a b : ℤ) → le_z a b ≡ true → a ≤ℤ b
+  le_z_true a b h = grind (arith, ints)
 
 take_front : {X : Type 0} (xs ys : List X) → take (length xs) (xs ++ ys) ≡ xs
 take_front [] ys = refl

@@ -21,3 +21,12 @@ Meets x rows = (a b : ℕ) → a < length rows → b < length rows → distance 
 pub record IsSmall (c : ℤ) : Type 0 where
   pub least : negsuc (2 ^ 34 - 1) ≤ℤ c
   pub most : c ≤ℤ pos (2 ^ 34)
+
+-- the distance from place j back to place i is so far below -c that no integers meet it and x_i - x_j <= c
+abbrev pub IsRefused : List (List ℤ) → ℕ → ℕ → ℤ → Type 0
+IsRefused rows i j c = (distance rows j i <ℤ none) × ((distance rows j i +ℤ c) <ℤ pos 0)
+
+-- at least -2^40, and at most the distance that bounds nothing
+pub record IsDistance (z : ℤ) : Type 0 where
+  pub least : negsuc (2 ^ 40 - 1) ≤ℤ z
+  pub most : z ≤ℤ none

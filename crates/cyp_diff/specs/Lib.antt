@@ -1,5 +1,6 @@
 pub mod Adding
 pub mod Closed
+pub mod Crowds
 pub mod Distances
 pub mod Gaps
 pub mod Places

@@ -1,17 +1,18 @@
-ghost use Rattle.std.specs.Prelude.{◌≡◌, ℕ, ℤ, ◌+◌, ◌<◌, ◌≤◌, ◌+ℤ◌, ◌<ℤ◌, ◌≤ℤ◌, length, map, slice_index_or, IfOk};
+ghost use Rattle.std.specs.Prelude.{◌≡◌, ◌↔◌, ℕ, ℤ, ◌+◌, ◌<◌, ◌≤◌, ◌+ℤ◌, ◌<ℤ◌, ◌≤ℤ◌, length, map, slice_index_or, IfOk, IsTrue};
 ghost use Rattle.std.specs.List.{All};
 ghost use Rattle.cyp_lanes.specs.Rows.{IsModest};
 ghost use Rattle.cyp_diff.specs.Adding.{AddMeans};
-ghost use Rattle.cyp_diff.specs.Distances.{IsSmall, Meets, none};
+ghost use Rattle.cyp_diff.specs.Distances.{IsDistance, IsRefused, IsSmall, Meets, distance, none};
 ghost use Rattle.cyp_diff.specs.Solution.{Solves, least};
-ghost use Rattle.cyp_diff.specs.Relaxing.{HasRoom, closer, lifted};
+ghost use Rattle.cyp_diff.specs.Relaxing.{HasRoom, IsThrough, closer, lifted};
 
 use cyp_lanes::relax_row;
 use cyp_term::{Copied, List, NoMemory};
 use std::alloc::Global;
 use std::marker::Model;
 
-const WIDTH: usize = 40;
+/// How many entries a row has: as many as there may be places, in whole lanes.
+pub(crate) const WIDTH: usize = 40;
 
 const NONE: i64 = 1 << 60;
 
@@ -57,28 +58,32 @@ fn lift(row: &[i64; WIDTH]) -> [i64; WIDTH]
     out
 }
 
-fn come_closer(row: &mut [i64; WIDTH], i: usize, from: &[i64; WIDTH], c: i64)
-    requires place { i < 40 }
+fn come_closer(row: &mut [i64; WIDTH], i: usize, j: usize, from: &[i64; WIDTH], c: i64)
+    requires first { i < 40 }
+    requires second { j < 40 }
     requires small { IsSmall c }
     requires room { HasRoom i row.old }
     requires modest { All IsModest from.now }
+    requires through { IsThrough i j c from.now row.old }
     ensures { row.new ≡ closer i from.now c row.old }
 {
     let far = row[i];
-    if far < NONE {
+    if far < NONE && far + c < row[j] {
         relax_row(row, from, far + c);
     }
 }
 
-fn close(rows: &mut [[i64; WIDTH]], i: usize, from: &[i64; WIDTH], c: i64)
-    requires place { i < 40 }
+fn close(rows: &mut [[i64; WIDTH]], i: usize, j: usize, from: &[i64; WIDTH], c: i64)
+    requires first { i < 40 }
+    requires second { j < 40 }
     requires small { IsSmall c }
     requires room { All (HasRoom i) rows.old }
     requires modest { All IsModest from.now }
+    requires through { All (IsThrough i j c from.now) rows.old }
     ensures { rows.new ≡ map (closer i from.now c) rows.old }
 {
     for row in rows.iter_mut() {
-        come_closer(row, i, from, c);
+        come_closer(row, i, j, from, c);
     }
 }
 
@@ -115,13 +120,44 @@ impl Bounds {
         ensures places { length self.new ≡ length self.old }
         ensures means { AddMeans i j c self.old self.new result }
     {
-        let back = self.rows[j as usize][i as usize];
-        if back < NONE && back + c < 0 {
+        if self.distance(i, j) <= c {
+            return Adding::Added;
+        }
+        if self.refuses(i, j, c) {
             return Adding::Contradiction;
         }
         let from = lift(&self.rows[j as usize]);
-        close(&mut self.rows, i as usize, &from, c);
+        close(&mut self.rows, i as usize, j as usize, &from, c);
         Adding::Added
+    }
+
+    /// How many places there are.
+    pub(crate) fn places(&self) -> u8
+        ensures value { result ≡ length self.now }
+        ensures few { result ≤ 33 }
+    {
+        self.rows.len() as u8
+    }
+
+    /// The least number that the integer at place `i`, less that at place `j`, is known to be at most; 2^60 where there is none.
+    pub(crate) fn distance(&self, i: u8, j: u8) -> i64
+        requires first { i < length self.now }
+        requires second { j < length self.now }
+        ensures value { result ≡ distance self.now i j }
+        ensures range { IsDistance result }
+    {
+        self.rows[i as usize][j as usize]
+    }
+
+    /// Whether the integer at place `i`, less that at place `j`, can't be at most `c`.
+    pub(crate) fn refuses(&self, i: u8, j: u8, c: i64) -> bool
+        requires first { i < length self.now }
+        requires second { j < length self.now }
+        requires small { IsSmall c }
+        ensures { IsTrue result ↔ IsRefused self.now i j c }
+    {
+        let back = self.distance(j, i);
+        back < NONE && back + c < 0
     }
 
     /// Integers that meet the bounds: the least distance from each place.

@@ -1,10 +1,11 @@
-ghost use Rattle.std.specs.Prelude.{◌≡◌, ◌<◌, ◌↔◌, ◌+ℤ◌, IfOk, IsTrue, MatchOption, length};
+ghost use Rattle.std.specs.Prelude.{◌≡◌, ◌<◌, ◌↔◌, pos, ◌+ℤ◌, ◌-ℤ◌, IfOk, IsTrue, MatchOption, length};
 ghost use Rattle.std.specs.List.{All};
 ghost use Rattle.cyp_diff.specs.Distances.{IsSmall};
 ghost use Rattle.cyp_diff.specs.Gaps.{Apart, IsGap, SeparateMeans, SideMeans};
 ghost use Rattle.cyp_diff.specs.Solution.{IsLow, at};
 
 use crate::bounds::{Adding, Bounds};
+use crate::crowds::is_crowded;
 use cyp_term::{Copied, List, NoMemory};
 use std::alloc::Global;
 
@@ -43,6 +44,43 @@ fn broken(xs: &[i64], gaps: &[Gap]) -> Option<usize>
     None
 }
 
+/// How many integers the gap's difference may be, and more for a gap that needs no order yet; 0 where one order is all that is left.
+fn choice(bounds: &Bounds, xs: &[i64], gap: Gap) -> i64
+    requires gap { IsGap (length bounds.now) gap }
+    requires places { length xs.now ≡ length bounds.now }
+    requires low { All IsLow xs.now }
+{
+    let up = bounds.distance(gap.i, gap.j) - gap.c;
+    let down = bounds.distance(gap.j, gap.i) + gap.c;
+    if up == 0 || down == 0 {
+        0
+    } else if is_broken(xs, gap) {
+        up + down
+    } else {
+        i64::MAX
+    }
+}
+
+/// Which gap leaves the least choice. One at `first` is broken.
+fn narrowest(bounds: &Bounds, xs: &[i64], gaps: &[Gap], first: usize) -> usize
+    requires gaps { All (IsGap (length bounds.now)) gaps.now }
+    requires places { length xs.now ≡ length bounds.now }
+    requires low { All IsLow xs.now }
+    requires within { first < length gaps.now }
+    ensures { result < length gaps.now }
+{
+    let mut best = first;
+    let mut least = choice(bounds, xs, gaps[first]);
+    for k in 0..gaps.len() {
+        let here = choice(bounds, xs, gaps[k]);
+        if here < least {
+            best = k;
+            least = here;
+        }
+    }
+    best
+}
+
 #[cycle(separate)]
 fn side(
     alloc: Global,
@@ -64,12 +102,52 @@ fn side(
     }
 }
 
-/// Integers that meet the bounds and avoid the gaps. The orders of a gap are tried only where the least distances break it.
+#[cycle(separate)]
+fn first_side(
+    alloc: Global,
+    bounds: &Bounds,
+    gap: Gap,
+    gaps: &List<Gap>,
+) -> Result<Option<List<i64>>, NoMemory>
+    requires gap { IsGap (length bounds.now) gap }
+    requires gaps { All (IsGap (length bounds.now)) gaps.now }
+    ensures { IfOk result (SideMeans bounds.now gap.i gap.j (gap.c -ℤ pos 1) gaps.now) }
+{
+    if bounds.refuses(gap.i, gap.j, gap.c - 1) {
+        return Ok(None);
+    }
+    let rest = gaps.copy(alloc)?;
+    side(alloc, bounds.copy(alloc)?, gap.i, gap.j, gap.c - 1, rest)
+}
+
+/// As `separate`. The two orders of the gap at `k` are tried one after the other.
+#[cycle(separate)]
+fn split(
+    alloc: Global,
+    bounds: Bounds,
+    mut gaps: List<Gap>,
+    k: usize,
+) -> Result<Option<List<i64>>, NoMemory>
+    requires gaps { All (IsGap (length bounds)) gaps }
+    requires within { k < length gaps }
+    ensures { IfOk result (SeparateMeans bounds gaps) }
+{
+    if is_crowded(&bounds, gaps.as_slice(), gaps.as_slice()[k]) {
+        return Ok(None);
+    }
+    let gap = gaps.remove(k);
+    match first_side(alloc, &bounds, gap, &gaps)? {
+        Some(xs) => Ok(Some(xs)),
+        None => side(alloc, bounds, gap.j, gap.i, -1 - gap.c, gaps),
+    }
+}
+
+/// Integers that meet the bounds and avoid the gaps. The orders of a gap are tried only where the least distances break one.
 #[cycle(separate)]
 pub(crate) fn separate(
     alloc: Global,
     bounds: Bounds,
-    mut gaps: List<Gap>,
+    gaps: List<Gap>,
 ) -> Result<Option<List<i64>>, NoMemory>
     requires gaps { All (IsGap (length bounds)) gaps }
     ensures { IfOk result (SeparateMeans bounds gaps) }
@@ -77,13 +155,9 @@ pub(crate) fn separate(
     let xs = bounds.solution(alloc)?;
     match broken(xs.as_slice(), gaps.as_slice()) {
         None => Ok(Some(xs)),
-        Some(k) => {
-            let gap = gaps.remove(k);
-            let rest = gaps.copy(alloc)?;
-            match side(alloc, bounds.copy(alloc)?, gap.i, gap.j, gap.c - 1, rest)? {
-                Some(xs) => Ok(Some(xs)),
-                None => side(alloc, bounds, gap.j, gap.i, -1 - gap.c, gaps),
-            }
+        Some(first) => {
+            let k = narrowest(&bounds, xs.as_slice(), gaps.as_slice(), first);
+            split(alloc, bounds, gaps, k)
         }
     }
 }

@@ -3,7 +3,7 @@ ghost use Rattle.std.specs.List.{All};
 ghost use Rattle.cyp_diff.specs.Solution.{IsLow, at};
 ghost use Rattle.cyp_diff.specs.Solving.{AreInts, SolveMeans, values_from, variables};
 
-use crate::places::variables_of;
+use crate::places::table_of;
 use crate::system::integers_of;
 use cyp_term::{Copied, List, Lit, NoMemory, Var};
 use std::alloc::Global;
@@ -37,8 +37,8 @@ pub fn solve(alloc: Global, lits: &[Lit]) -> Result<Option<List<Value>>, NoMemor
     requires few { length (variables lits.now) ≤ 32 }
     ensures { IfOk result (SolveMeans lits.now) }
 {
-    let vars = variables_of(alloc, lits)?;
-    match integers_of(alloc, vars.as_slice(), lits)? {
+    let vars = table_of(alloc, lits)?;
+    match integers_of(alloc, &vars, lits)? {
         Some(xs) => Ok(Some(values_of(alloc, vars.as_slice(), xs.as_slice())?)),
         None => Ok(None),
     }

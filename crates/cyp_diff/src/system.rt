@@ -8,8 +8,8 @@ ghost use Rattle.cyp_diff.specs.Systems.{AtMostMeans, EqMeans, GapMeans, IsBit, 
 
 use crate::bounds::{Adding, Bounds};
 use crate::gaps::{Gap, separate};
-use crate::places::place;
-use cyp_term::{List, Lit, NoMemory, Term, Var};
+use crate::places::{VarTable, place};
+use cyp_term::{List, Lit, NoMemory, Term};
 use std::alloc::Global;
 
 fn at_most(bounds: &mut Bounds, i: u8, j: u8, c: i64) -> bool
@@ -25,7 +25,7 @@ fn at_most(bounds: &mut Bounds, i: u8, j: u8, c: i64) -> bool
     }
 }
 
-fn add_le(bounds: &mut Bounds, vars: &[Var], a: &Term, b: &Term, less: i64) -> bool
+fn add_le(bounds: &mut Bounds, vars: &VarTable, a: &Term, b: &Term, less: i64) -> bool
     requires few { length vars.now ≤ 32 }
     requires places { length bounds.old ≡ length vars.now + 1 }
     requires less { IsBit less }
@@ -36,7 +36,7 @@ fn add_le(bounds: &mut Bounds, vars: &[Var], a: &Term, b: &Term, less: i64) -> b
     at_most(bounds, place(vars, a), place(vars, b), c)
 }
 
-fn add_eq(bounds: &mut Bounds, vars: &[Var], a: &Term, b: &Term) -> bool
+fn add_eq(bounds: &mut Bounds, vars: &VarTable, a: &Term, b: &Term) -> bool
     requires few { length vars.now ≤ 32 }
     requires places { length bounds.old ≡ length vars.now + 1 }
     ensures places { length bounds.new ≡ length bounds.old }
@@ -45,7 +45,7 @@ fn add_eq(bounds: &mut Bounds, vars: &[Var], a: &Term, b: &Term) -> bool
     add_le(bounds, vars, a, b, 0) && add_le(bounds, vars, b, a, 0)
 }
 
-fn gap_of(vars: &[Var], a: &Term, b: &Term) -> Gap
+fn gap_of(vars: &VarTable, a: &Term, b: &Term) -> Gap
     requires few { length vars.now ≤ 32 }
     ensures gap { IsGap (length vars.now + 1) result }
     ensures means { GapMeans vars.now a.now b.now result }
@@ -60,7 +60,7 @@ fn gap_of(vars: &[Var], a: &Term, b: &Term) -> Gap
 fn add_lit(
     bounds: &mut Bounds,
     gaps: &mut Vec<Gap>,
-    vars: &[Var],
+    vars: &VarTable,
     lit: &Lit,
 ) -> Result<bool, NoMemory>
     requires few { length vars.now ≤ 32 }
@@ -84,7 +84,7 @@ fn add_lit(
 /// Integers at the places that make the literals hold.
 pub(crate) fn integers_of(
     alloc: Global,
-    vars: &[Var],
+    vars: &VarTable,
     lits: &[Lit],
 ) -> Result<Option<List<i64>>, NoMemory>
     requires few { length vars.now ≤ 32 }

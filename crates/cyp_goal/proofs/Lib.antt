@@ -10,6 +10,7 @@ pub mod LinksFit
 pub mod LinksNormal
 pub mod LitEquality
 pub mod Live
+pub mod Loops
 pub mod Maps
 pub mod NormalKeeps
 pub mod NormalOfNormal

@@ -26,7 +26,7 @@ use Rattle.cyp_goal.specs.Normal.{Renaming, keep_limits, normal, solve, tidy_nod
 use Rattle.cyp_goal.specs.Numbering.{new_name, renumber}
 use Rattle.cyp_goal.specs.Pruning.{prune}
 use Rattle.cyp_goal.specs.Solving.{first_solved, is_logical, solve_post, solve_pre, solved_any, solved_eq}
-use Rattle.cyp_goal.specs.Raw.{IsRaw, lit_fits}
+use Rattle.cyp_goal.specs.Raw.{IsRegular, lit_fits}
 use Rattle.cyp_heap.specs.Chunks.{chunks_vars}
 use Rattle.cyp_heap.specs.Goals.{node_vars}
 use Rattle.cyp_heap.specs.Limits.{is_within_limits}
@@ -56,11 +56,11 @@ avoids_exist g f h =
     (among_in v (lits_vars g.pure_pre) (flat_in lit_vars v l g.pure_pre k i))))))
 
 -- the steps before the last leave a reduced node
-reduced : (n s : Node) → IsRaw n → solve n ≡ Some s → IsReduced (prune (tidy_node s))
-reduced n s raw e =
-    let fits : FitNode no_set is_set_var n = node_parts no_set is_set_var n raw.sorted raw.pre_once raw.post_once in
+reduced : (n s : Node) → IsRegular n → solve n ≡ Some s → IsReduced (prune (tidy_node s))
+reduced n s regular e =
+    let fits : FitNode no_set is_set_var n = node_parts no_set is_set_var n regular.sorted regular.pre_once regular.post_once in
     let t : Node = tidy_node s in
-    let tidy : IsTidy no_set is_set_var t = tidy_leaves no_set is_set_var s (solve_leaves no_set is_set_var n s fits (avoids_exist n.goal fits.pure_pre raw.exist_apart) e) in
+    let tidy : IsTidy no_set is_set_var t = tidy_leaves no_set is_set_var s (solve_leaves no_set is_set_var n s fits (avoids_exist n.goal fits.pure_pre regular.exist_apart) e) in
     record {
       tidy = prune_leaves no_set is_set_var t tidy;
       pruned = prune_again t;
@@ -170,6 +170,6 @@ normal_renumbered n is x e =
     (normal_numbered (shrink_node n) (shrunk n is) (λ r renames. shrink_again r renames n) (ap is_within_limits (sym numbered) ∙ found.0))
 
 pub normal_of_normal : NormalOfNormal
-normal_of_normal n x raw e =
+normal_of_normal n x regular e =
     option_and_then_some (λ (s : Node). keep_limits (prune (tidy_node s))) (solve n) x e (λ s solved kept.
-    normal_renumbered (prune (tidy_node s)) (reduced n s raw solved) x kept)
+    normal_renumbered (prune (tidy_node s)) (reduced n s regular solved) x kept)

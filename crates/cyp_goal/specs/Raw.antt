@@ -99,7 +99,7 @@ abbrev pub is_sorted : Node → Bool
 is_sorted n = node_fits (λ v. not (is_set_var v)) is_set_var n
 
 -- what the law of normal forms asks of a node that is brought into normal form
-pub record IsRaw (n : Node) : Type 0 where
+pub record IsRegular (n : Node) : Type 0 where
   pub sorted : IsTrue (is_sorted n)
   -- the set terms of its literals are without repeats
   pub pre_once : IsTrue (list_all lit_once n.goal.pure_pre)

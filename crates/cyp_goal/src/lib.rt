@@ -2,6 +2,8 @@
 //! of the normal form.
 #![tactic(auto)]
 
+mod goal_facts;
 mod laws;
 
+pub use goal_facts::facts;
 pub use laws::{normal_of_a_normal_form, normal_under_new_logical_names, normal_under_new_names};

@@ -1,7 +1,8 @@
 -- What may stand behind a name that begins a spelling.
 use Rattle.std.proofs.Common.{◌≡◌, ℕ, Bool, true, false, List, [], ◌∷◌, ◌⊎◌, inl, inr, refl, ap, subst}
 use Rattle.cyp_grammar.specs.Lexemes.{Lexeme, Name, Said}
-use Rattle.cyp_grammar.specs.Spelling.{Ident, Mark, Then, ident, more_spelling}
+use Rattle.cyp_grammar.specs.Spelling.{Mark, Then, ident, more_spelling}
+use Rattle.cyp_grammar.specs.declared.ident.Ident.{Ident}
 use Rattle.cyp_grammar.proofs.Readers.{Read}
 use Rattle.cyp_grammar.proofs.Spellings.{then_split}
 use Rattle.cyp_grammar.proofs.Readings.{Reads}

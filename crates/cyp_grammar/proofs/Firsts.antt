@@ -1,7 +1,8 @@
 -- Choices by the first lexeme, and spellings that may begin with any name.
 use Rattle.std.proofs.Common.{◌≡◌, ℕ, Bool, true, false, ◌||◌, List, [], ◌∷◌, ◌++◌, Option, None, ◌⊎◌, inl, inr, refl, sym, ap, subst, ◌∙◌}
 use Rattle.cyp_grammar.specs.Lexemes.{Lexeme, Said}
-use Rattle.cyp_grammar.specs.Spelling.{Ident, Mark, Match, ident}
+use Rattle.cyp_grammar.specs.Spelling.{Mark, Match, ident}
+use Rattle.cyp_grammar.specs.declared.ident.Ident.{Ident}
 use Rattle.cyp_grammar.proofs.Readers.{IsNamed, Read, Want, first_tells, heads, ident_of, one_of}
 use Rattle.cyp_grammar.proofs.Spellings.{append_nil, match_join}
 use Rattle.cyp_grammar.proofs.Readings.{Apart, Reads, Within}

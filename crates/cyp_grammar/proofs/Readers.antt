@@ -6,7 +6,7 @@ use Rattle.cyp_lex.specs.declared.token.Sign.TheVariants.{Comma}
 use Rattle.cyp_lex.specs.declared.token.Word.{Word}
 use Rattle.cyp_grammar.specs.Lexemes.{Lexeme, Name, Number, Reserved, Said, Symbol}
 use Rattle.cyp_grammar.proofs.SignTests.{same_sign, same_word}
-use Rattle.cyp_grammar.specs.Spelling.{Ident}
+use Rattle.cyp_grammar.specs.declared.ident.Ident.{Ident}
 
 -- what is allowed where a reader stops: a name, or no name
 pub data Want : Type 0 where

@@ -3,7 +3,8 @@ use Rattle.std.proofs.Common.{◌≡◌, ℕ, Bool, true, false, cond, List, [],
 use Rattle.cyp_lex.specs.declared.token.Sign.{Sign}
 use Rattle.cyp_lex.specs.declared.token.Word.{Word}
 use Rattle.cyp_grammar.specs.Lexemes.{Lexeme, Name, Number, Reserved, Said, Symbol}
-use Rattle.cyp_grammar.specs.Spelling.{Any, At, Ident, Mark, ident}
+use Rattle.cyp_grammar.specs.Spelling.{Any, At, Mark, ident}
+use Rattle.cyp_grammar.specs.declared.ident.Ident.{Ident}
 use Rattle.cyp_grammar.proofs.Readers.{AName, NoName, Read, Want, ident_of, ident_token, is_name, is_number, is_sign, is_there, is_word, listing, name_of, number_of, number_token, place_if, placed, placed_by, placed_number, plainly, sign_place, sign_token, single, telling, word_place, word_token}
 use Rattle.cyp_grammar.proofs.SameSigns.{sign_is, sign_self, word_is, word_self}
 use Rattle.cyp_grammar.proofs.Readings.{Apart, Reads, Within}

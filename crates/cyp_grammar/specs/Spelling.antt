@@ -2,6 +2,7 @@
 use Rattle.std.specs.Prelude.{List, [], ◌++◌, ◌∷◌, ◌≡◌, ℕ}
 use Rattle.cyp_lex.specs.declared.token.Sign.{Sign}
 use Rattle.cyp_lex.specs.declared.token.Word.{Word}
+use Rattle.cyp_grammar.specs.declared.ident.Ident.{Ident}
 use Rattle.cyp_grammar.specs.Lexemes.{Lexeme, Name, Reserved, Said, Symbol}
 
 -- what a lexeme says, and its place where the tree tells it
@@ -27,11 +28,6 @@ IsEnd ls = ls ≡ []
 -- the lexemes are those of the marks, and no more
 abbrev pub Match : List Mark → List Lexeme → Type 0
 Match ms ls = Then ms IsEnd ls
-
--- a name with its bytes and its place
-pub record Ident : Type 0 where
-  pub text : List ℕ
-  pub place : ℕ
 
 -- a symbol, wherever it stands
 abbrev pub sign : Sign → Mark

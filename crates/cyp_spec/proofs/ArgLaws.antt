@@ -2,7 +2,8 @@
 use Rattle.std.proofs.Common.{◌≡◌, ℕ, Bool, true, false, List, [], ◌∷◌, Option, Some, None, inl, inr, refl}
 use Rattle.cyp_lex.specs.declared.token.Sign.TheVariants.{LeftBrace, Minus, Plus, TwoPluses}
 use Rattle.cyp_grammar.specs.Lexemes.{Symbol}
-use Rattle.cyp_grammar.specs.Spelling.{Ident, Mark, ident}
+use Rattle.cyp_grammar.specs.Spelling.{Mark, ident}
+use Rattle.cyp_grammar.specs.declared.ident.Ident.{Ident}
 use Rattle.cyp_grammar.proofs.Readers.{NoName, is_name, is_sign}
 use Rattle.cyp_grammar.proofs.Readings.{Apart, Reads, Within, apart_none, less_reads, none, nowhere, within_self}
 use Rattle.cyp_grammar.proofs.Singles.{one}
@@ -12,7 +13,11 @@ use Rattle.cyp_grammar.proofs.Options.{option_reads, spell_option}
 use Rattle.cyp_grammar.proofs.Choices.{spell_either}
 use Rattle.cyp_grammar.proofs.Tellers.{ident_reads, number_mark, number_token_reads, sign_mark, sign_reads}
 use Rattle.cyp_grammar.proofs.Firsts.{NameBegins, first_reads, name_ident, name_mapped, name_option, name_right}
-use Rattle.cyp_spec.specs.Trees.{ArgTree, BracesArg, IntTree, MinusNum, NameMinus, NamePlus, Named, Num, NumPlus, PartTree, TermArg, UnionArg}
+use Rattle.cyp_spec.specs.declared.tree.ArgTree.{ArgTree}
+use Rattle.cyp_spec.specs.declared.tree.ArgTree.TheVariants.{BracesArg, TermArg, UnionArg}
+use Rattle.cyp_spec.specs.declared.tree.IntTree.{IntTree}
+use Rattle.cyp_spec.specs.declared.tree.IntTree.TheVariants.{MinusNum, NameMinus, NamePlus, Named, Num, NumPlus}
+use Rattle.cyp_spec.specs.declared.tree.PartTree.{PartTree}
 use Rattle.cyp_spec.specs.Grammar.{arg_spelling}
 use Rattle.cyp_spec.proofs.TermReaders.{Inner, begins_int, begins_other, is_sum}
 use Rattle.cyp_spec.proofs.ChunkReaders.{AnyArg, ArgTail, BracesUnion, MoreParts, NameArg, OtherArg, TermOrName, arg_at, arg_tail, arg_tree, begins_arg, braces_union, is_arg_tail, more_parts, name_arg, other_arg, term_or_name}

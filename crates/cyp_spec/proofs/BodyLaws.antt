@@ -14,7 +14,10 @@ use Rattle.cyp_grammar.proofs.Tellers.{sign_mark, sign_reads}
 use Rattle.cyp_grammar.proofs.Firsts.{NameBegins, name_right}
 use Rattle.cyp_grammar.proofs.Seconds.{ApartButNames, second_reads}
 use Rattle.cyp_grammar.proofs.Behinds.{NameLeads, leads_both}
-use Rattle.cyp_spec.specs.Trees.{BodyTree, ChunkTree, Items, NoItems, PureTree}
+use Rattle.cyp_spec.specs.declared.tree.BodyTree.{BodyTree}
+use Rattle.cyp_spec.specs.declared.tree.ChunkTree.{ChunkTree}
+use Rattle.cyp_spec.specs.declared.tree.PureTree.{PureTree}
+use Rattle.cyp_spec.specs.declared.tree.PureTree.TheVariants.{Items, NoItems}
 use Rattle.cyp_spec.specs.Grammar.{body_spelling, heap_spelling, in_braces}
 use Rattle.cyp_spec.proofs.ChunkReaders.{begins_heap, heap_at, is_chunk_tail}
 use Rattle.cyp_spec.proofs.BodyReaders.{AnyBody, SomeItems, begins_body, begins_item, body_at, body_tree, items_at}

@@ -5,7 +5,14 @@ use Rattle.cyp_lex.specs.declared.token.Sign.TheVariants.{AndAnd, Semicolon, Sla
 use Rattle.cyp_lex.specs.declared.token.Word.TheVariants.{True}
 use Rattle.cyp_grammar.specs.Lexemes.{Lexeme, Said, Symbol}
 use Rattle.cyp_grammar.proofs.Readers.{AName, NoName, Read, both, first_tells, is_sign, is_word, mapped, one_of, plainly, repeating, second_tells, sign_token, single, telling, word_token}
-use Rattle.cyp_spec.specs.Trees.{Ampersands, BodyTree, ChunkTree, Conjunction, ItemTree, Items, LitItem, LitTree, NoItems, Slashes, TrueItem}
+use Rattle.cyp_spec.specs.LitTrees.{LitTree}
+use Rattle.cyp_spec.specs.declared.tree.BodyTree.{BodyTree}
+use Rattle.cyp_spec.specs.declared.tree.ChunkTree.{ChunkTree}
+use Rattle.cyp_spec.specs.declared.tree.Conjunction.{Conjunction}
+use Rattle.cyp_spec.specs.declared.tree.Conjunction.TheVariants.{Ampersands, Slashes}
+use Rattle.cyp_spec.specs.declared.tree.ItemTree.{ItemTree}
+use Rattle.cyp_spec.specs.declared.tree.ItemTree.TheVariants.{LitItem, TrueItem}
+use Rattle.cyp_spec.specs.declared.tree.PureTree.TheVariants.{Items, NoItems}
 use Rattle.cyp_spec.proofs.LitReaders.{begins_lit, lit_at}
 use Rattle.cyp_spec.proofs.ChunkReaders.{begins_heap, heap_at, is_chunk_tail}
 

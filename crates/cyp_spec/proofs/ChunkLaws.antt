@@ -3,7 +3,8 @@ use Rattle.std.proofs.Common.{◌≡◌, ℕ, Bool, true, List, [], ◌∷◌, �
 use Rattle.cyp_lex.specs.declared.token.Sign.TheVariants.{Comma, LeftBracket, LeftParen, PointsTo, RightBracket, RightParen, TwoStars}
 use Rattle.cyp_lex.specs.declared.token.Word.TheVariants.{Emp}
 use Rattle.cyp_grammar.specs.Lexemes.{Name, Reserved, Said, Symbol}
-use Rattle.cyp_grammar.specs.Spelling.{Ident, Mark, ident}
+use Rattle.cyp_grammar.specs.Spelling.{Mark, ident}
+use Rattle.cyp_grammar.specs.declared.ident.Ident.{Ident}
 use Rattle.cyp_grammar.proofs.Readers.{AName, NoName, is_name, is_sign, is_word, one_of}
 use Rattle.cyp_grammar.proofs.Readings.{Apart, Reads, Within, apart_none, none, nowhere, within_self}
 use Rattle.cyp_grammar.proofs.Singles.{one}
@@ -15,7 +16,10 @@ use Rattle.cyp_grammar.proofs.Tellers.{ident_reads, placed_mark, placed_number_r
 use Rattle.cyp_grammar.proofs.Firsts.{NameBegins, first_reads, name_both, name_ident, name_left, name_listed, name_mapped, name_right}
 use Rattle.cyp_grammar.proofs.Enclosures.{enclosed_reads, enclosed_spelling, name_enclosed}
 use Rattle.cyp_grammar.proofs.Behinds.{NameLeads, leads_either, leads_listed, leads_mapped, leads_name, leads_no_name}
-use Rattle.cyp_spec.specs.Trees.{ArgTree, BlockOf, ChunkTree, InstanceOf, IntTree, NamedCell, TermCell}
+use Rattle.cyp_spec.specs.declared.tree.ArgTree.{ArgTree}
+use Rattle.cyp_spec.specs.declared.tree.ChunkTree.{ChunkTree}
+use Rattle.cyp_spec.specs.declared.tree.ChunkTree.TheVariants.{BlockOf, InstanceOf, NamedCell, TermCell}
+use Rattle.cyp_spec.specs.declared.tree.IntTree.{IntTree}
 use Rattle.cyp_spec.specs.Grammar.{arg_spelling, chunk_spelling, heap_spelling, int_spelling}
 use Rattle.cyp_spec.proofs.ChunkReaders.{AnyChunk, BlockChunk, ChunkTail, TermChunk, args_at, begins_arg, begins_chunk, begins_heap, begins_shape, block_chunk, chunk_at, chunk_tail, chunk_tree, chunks_at, heap_at, heap_tree, is_chunk_tail, shape_chunk, term_chunk}
 use Rattle.cyp_spec.proofs.IntLaws.{int_ends, int_reads}

@@ -4,9 +4,15 @@ use Rattle.std.proofs.Common.{inl, inr}
 use Rattle.cyp_lex.specs.declared.token.Sign.TheVariants.{Comma, LeftBrace, LeftBracket, LeftParen, Minus, PointsTo, RightBracket, RightParen, TwoPluses, TwoStars}
 use Rattle.cyp_lex.specs.declared.token.Word.TheVariants.{Emp}
 use Rattle.cyp_grammar.specs.Lexemes.{Lexeme, Said}
-use Rattle.cyp_grammar.specs.Spelling.{Ident}
+use Rattle.cyp_grammar.specs.declared.ident.Ident.{Ident}
 use Rattle.cyp_grammar.proofs.Readers.{AName, NoName, Read, both, enclosed, first_tells, ident_token, is_name, is_number, is_sign, is_word, listing, mapped, number_token, one_of, option_after, placed_number, sign_token, word_token}
-use Rattle.cyp_spec.specs.Trees.{ArgTree, BlockOf, BracesArg, ChunkTree, InstanceOf, IntTree, MinusNum, Named, NamedCell, PartTree, TermArg, TermCell, UnionArg}
+use Rattle.cyp_spec.specs.declared.tree.ArgTree.{ArgTree}
+use Rattle.cyp_spec.specs.declared.tree.ArgTree.TheVariants.{BracesArg, TermArg, UnionArg}
+use Rattle.cyp_spec.specs.declared.tree.ChunkTree.{ChunkTree}
+use Rattle.cyp_spec.specs.declared.tree.ChunkTree.TheVariants.{BlockOf, InstanceOf, NamedCell, TermCell}
+use Rattle.cyp_spec.specs.declared.tree.IntTree.{IntTree}
+use Rattle.cyp_spec.specs.declared.tree.IntTree.TheVariants.{MinusNum, Named}
+use Rattle.cyp_spec.specs.declared.tree.PartTree.{PartTree}
 use Rattle.cyp_spec.proofs.TermReaders.{Inner, MinusTerm, NumberTerm, begins_int, begins_other, braces_at, inner_terms, int_at, is_sum, minus_term, number_term, number_tree, parts_at, sum_sign, sum_tree}
 
 -- the parts of a union behind its first

@@ -8,7 +8,7 @@ use Rattle.cyp_grammar.proofs.Wholes.{spelled_once, whole_reads}
 use Rattle.cyp_spec.specs.Grammar.{text_spelling}
 use Rattle.cyp_spec.specs.ReadingLaws.{OneTree}
 use Rattle.cyp_spec.proofs.TextReaders.{text_at}
-use Rattle.cyp_spec.specs.Trees.{TextTree}
+use Rattle.cyp_spec.specs.declared.tree.TextTree.{TextTree}
 use Rattle.cyp_spec.specs.GrammarFaults.{AllowsName, name_at}
 use Rattle.cyp_spec.proofs.NamesAllowed.{AllowsNone, IsNoMore, Parsed, Stops}
 use Rattle.cyp_spec.proofs.TextLaws.{text_reads}

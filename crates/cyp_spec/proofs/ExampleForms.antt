@@ -17,7 +17,8 @@ use Rattle.cyp_term.specs.declared.term.Sort.TheVariants.{Card, Int, Set}
 use Rattle.cyp_term.specs.declared.term.Term.{Term}
 use Rattle.cyp_term.specs.declared.term.Var.{Var}
 use Rattle.cyp_spec.specs.Specifications.{Specification}
-use Rattle.cyp_spec.specs.Trees.{NoItems, TextTree}
+use Rattle.cyp_spec.specs.declared.tree.PureTree.TheVariants.{NoItems}
+use Rattle.cyp_spec.specs.declared.tree.TextTree.{TextTree}
 use Rattle.cyp_spec.proofs.Parser.{parsed}
 
 -- ---- texts

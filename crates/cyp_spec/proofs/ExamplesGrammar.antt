@@ -3,14 +3,17 @@ use Rattle.std.specs.Prelude.{List, [], codes, ℕ, ◌++◌, ◌∷◌, ◌≡�
 use Rattle.std.proofs.Common.{refl, inl, inr, sym, ◌∙◌}
 use Rattle.cyp_grammar.specs.Beginnings.{Begins}
 use Rattle.cyp_grammar.specs.Lexemes.{Lexeme, Name, Reserved, Said}
-use Rattle.cyp_grammar.specs.Spelling.{Ident, Mark, Match, all_spelling, ident, word}
+use Rattle.cyp_grammar.specs.Spelling.{Mark, Match, all_spelling, ident, word}
+use Rattle.cyp_grammar.specs.declared.ident.Ident.{Ident}
 use Rattle.cyp_lex.specs.Lexing.{lexed, name_kind, piece_at, sign_at, stands}
 use Rattle.cyp_lex.specs.declared.fault.FaultKind.TheVariants.{Expected, MissingProcedure, ReservedName}
 use Rattle.cyp_lex.specs.declared.token.Word.TheVariants.{If, Predicate, Void}
 use Rattle.cyp_spec.specs.Grammar.{pred_spelling, text_spelling}
 use Rattle.cyp_spec.specs.GrammarFaults.{AllowsName, SpoilsSum, name_at, other, reserved}
 use Rattle.cyp_spec.specs.Reading.{IsReading}
-use Rattle.cyp_spec.specs.Trees.{NoItems, PredTree, TextTree}
+use Rattle.cyp_spec.specs.declared.tree.PredTree.{PredTree}
+use Rattle.cyp_spec.specs.declared.tree.PureTree.TheVariants.{NoItems}
+use Rattle.cyp_spec.specs.declared.tree.TextTree.{TextTree}
 use Rattle.cyp_spec.proofs.ExampleForms.{lexemes, refused}
 
 -- the least tree, with this name

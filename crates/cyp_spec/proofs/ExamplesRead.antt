@@ -12,7 +12,11 @@ use Rattle.cyp_term.specs.Regions.{all_set_vars, all_terms, regions_fit}
 use Rattle.cyp_term.specs.declared.lit.Lit.TheVariants.{Eq, Lt, Same}
 use Rattle.cyp_term.specs.declared.term.Sort.TheVariants.{Int}
 use Rattle.cyp_spec.specs.Reading.{IsReading}
-use Rattle.cyp_spec.specs.Trees.{LocSort, Named, NamedCell, NoItems, Num, TextTree}
+use Rattle.cyp_spec.specs.declared.tree.ChunkTree.TheVariants.{NamedCell}
+use Rattle.cyp_spec.specs.declared.tree.IntTree.TheVariants.{Named, Num}
+use Rattle.cyp_spec.specs.declared.tree.PureTree.TheVariants.{NoItems}
+use Rattle.cyp_spec.specs.declared.tree.SortTree.TheVariants.{LocSort}
+use Rattle.cyp_spec.specs.declared.tree.TextTree.{TextTree}
 use Rattle.cyp_spec.proofs.ExampleForms.{S, X, block, cell, goal, inst, k, no_preds, num, plus, s, sll_preds, sll_text, tree_of, x}
 
 arrow_tokens : tokens_of (codes "x:->a") ≡ Ok (

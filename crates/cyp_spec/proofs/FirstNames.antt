@@ -12,7 +12,7 @@ use Rattle.cyp_term.specs.declared.term.Var.{Var}
 use Rattle.cyp_term.proofs.Lists.{some_out}
 use Rattle.cyp_spec.specs.ReadTerms.{Scope, rank_of, sort_in, var_named}
 use Rattle.cyp_spec.specs.Specifications.{count_sort}
-use Rattle.cyp_spec.specs.Trees.{ParamTree}
+use Rattle.cyp_spec.specs.declared.tree.ParamTree.{ParamTree}
 use Rattle.cyp_spec.specs.Uses.{Use, param_sort, param_uses, same_name}
 use Rattle.cyp_spec.proofs.Distinct.{Distinct, distinct_apart}
 use Rattle.cyp_spec.proofs.FormedScope.{sort_has}

@@ -14,7 +14,9 @@ use Rattle.cyp_term.specs.declared.term.Var.{Var}
 use Rattle.cyp_term.proofs.Lists.{Among, Among-cases, Among-left, Among-right}
 use Rattle.cyp_spec.specs.ReadTerms.{Scope, read_chunk}
 use Rattle.cyp_spec.specs.Specifications.{with_cards}
-use Rattle.cyp_spec.specs.Trees.{BlockOf, ChunkTree, InstanceOf, NamedCell, PredTree, TermCell}
+use Rattle.cyp_spec.specs.declared.tree.ChunkTree.{ChunkTree}
+use Rattle.cyp_spec.specs.declared.tree.ChunkTree.TheVariants.{BlockOf, InstanceOf, NamedCell, TermCell}
+use Rattle.cyp_spec.specs.declared.tree.PredTree.{PredTree}
 use Rattle.cyp_spec.proofs.Distinct.{not_in}
 
 abbrev pub cards : List Chunk → List Var

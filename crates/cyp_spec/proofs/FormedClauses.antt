@@ -16,7 +16,11 @@ use Rattle.cyp_spec.specs.Bodies.{body_uses, kept_body, kept_lit}
 use Rattle.cyp_spec.specs.NameFaults.{clause_faults, guard_faults, chunk_faults, param_names, repeats, sort_faults}
 use Rattle.cyp_spec.specs.ReadTerms.{Scope, rank_of, read_chunks, read_lit, read_lits, sort_in, var_named}
 use Rattle.cyp_spec.specs.Specifications.{clause_scope, count_sort, read_clause}
-use Rattle.cyp_spec.specs.Trees.{ClauseTree, IntTree, MinusNum, NameMinus, NamePlus, Named, Num, NumPlus, ParamTree, PredTree}
+use Rattle.cyp_spec.specs.declared.tree.ClauseTree.{ClauseTree}
+use Rattle.cyp_spec.specs.declared.tree.IntTree.{IntTree}
+use Rattle.cyp_spec.specs.declared.tree.IntTree.TheVariants.{MinusNum, NameMinus, NamePlus, Named, Num, NumPlus}
+use Rattle.cyp_spec.specs.declared.tree.ParamTree.{ParamTree}
+use Rattle.cyp_spec.specs.declared.tree.PredTree.{PredTree}
 use Rattle.cyp_spec.specs.Uses.{Use, int_uses, lit_uses, param_uses, use_of}
 use Rattle.cyp_spec.proofs.ClauseTerms.{SetVarIs, TermIs, Within, body_set_vars_are, body_terms_are, lit_set_vars_are, lit_terms_are, set_var_more, term_more}
 use Rattle.cyp_spec.proofs.FormedInstances.{none_both}

@@ -19,7 +19,9 @@ use Rattle.cyp_spec.specs.Bodies.{body_uses, in_kinds, kept_body}
 use Rattle.cyp_spec.specs.NameFaults.{chunk_faults, name_faults, param_names, pred_faults, proc_faults, repeats, set_param_fault, sort_faults}
 use Rattle.cyp_spec.specs.ReadTerms.{Scope, read_chunks, read_lits, use_var}
 use Rattle.cyp_spec.specs.Specifications.{goal_scope, read_goal, read_preds, universal_scope, with_cards}
-use Rattle.cyp_spec.specs.Trees.{ChunkTree, PredTree, TextTree}
+use Rattle.cyp_spec.specs.declared.tree.ChunkTree.{ChunkTree}
+use Rattle.cyp_spec.specs.declared.tree.PredTree.{PredTree}
+use Rattle.cyp_spec.specs.declared.tree.TextTree.{TextTree}
 use Rattle.cyp_spec.specs.Uses.{Use, param_uses}
 use Rattle.cyp_spec.proofs.Distinct.{differ_mapped, distinct_apart, distinct_right, not_in}
 use Rattle.cyp_spec.proofs.FormedCards.{all_cards, cards_differ, fits_with_cards, no_cards, part_or_card, parts_with_cards}

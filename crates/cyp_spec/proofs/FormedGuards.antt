@@ -5,7 +5,7 @@ use Rattle.std.specs.List.{list_all, list_any}
 use Rattle.std.specs.Str.{bytes_eq}
 use Rattle.std.proofs.lemmas.Bool.{and_from, le-leb}
 use Rattle.std.proofs.lemmas.Slice.Eq.{bytes_eq-Decides}
-use Rattle.cyp_grammar.specs.Spelling.{Ident}
+use Rattle.cyp_grammar.specs.declared.ident.Ident.{Ident}
 use Rattle.cyp_heap.specs.PredsFormed.{count_of, is_below, lit_terms}
 use Rattle.cyp_term.specs.Integers.{is_int_lit}
 use Rattle.cyp_term.specs.Terms.{lit_vars, negated, term_vars, with_all_new}
@@ -20,7 +20,12 @@ use Rattle.cyp_spec.specs.Bodies.{kept_body, kept_lit}
 use Rattle.cyp_spec.specs.NameFaults.{chunk_faults, clause_faults, guard_faults, is_set_literal, param_names, repeats, sort_faults, unbound_fault}
 use Rattle.cyp_spec.specs.ReadTerms.{Scope, compared, read_int, read_lit, sort_in, use_var, var_named}
 use Rattle.cyp_spec.specs.Specifications.{clause_scope, count_sort}
-use Rattle.cyp_spec.specs.Trees.{ClauseTree, Comparing, Comparison, Inside, IsAbove, IsAtLeast, IsAtMost, IsBelow, IsEqual, IsUnequal, LitTree, Negation, ParamTree, PredTree, SameSets, SubSets}
+use Rattle.cyp_spec.specs.LitTrees.{Comparing, Inside, LitTree, Negation, SameSets, SubSets}
+use Rattle.cyp_spec.specs.declared.tree.ClauseTree.{ClauseTree}
+use Rattle.cyp_spec.specs.declared.tree.Comparison.{Comparison}
+use Rattle.cyp_spec.specs.declared.tree.Comparison.TheVariants.{IsAbove, IsAtLeast, IsAtMost, IsBelow, IsEqual, IsUnequal}
+use Rattle.cyp_spec.specs.declared.tree.ParamTree.{ParamTree}
+use Rattle.cyp_spec.specs.declared.tree.PredTree.{PredTree}
 use Rattle.cyp_spec.specs.Uses.{Use, lit_uses, param_sort, param_uses, same_name}
 use Rattle.cyp_spec.proofs.ClauseTerms.{TermIs, lit_terms_are}
 use Rattle.cyp_spec.proofs.FirstNames.{begins_with, count_le, count_params, var_has}

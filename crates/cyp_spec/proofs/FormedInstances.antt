@@ -5,7 +5,7 @@ use Rattle.std.specs.List.{list_all}
 use Rattle.std.specs.Str.{bytes_eq}
 use Rattle.std.proofs.lemmas.List.{length-map}
 use Rattle.std.proofs.lemmas.Bool.{and_from, eqb-true}
-use Rattle.cyp_grammar.specs.Spelling.{Ident}
+use Rattle.cyp_grammar.specs.declared.ident.Ident.{Ident}
 use Rattle.cyp_heap.specs.Chunks.{insts}
 use Rattle.cyp_heap.specs.Formed.{arg_sort, fits_pred, inst_fits, sorts_fit}
 use Rattle.cyp_heap.specs.declared.chunk.InstOf.{InstOf}
@@ -18,7 +18,12 @@ use Rattle.cyp_spec.specs.Bodies.{in_kinds, is_block, is_cell, is_instance}
 use Rattle.cyp_spec.specs.NameFaults.{arg_fault, arg_faults, chunk_faults, fault_at, instance_fault}
 use Rattle.cyp_spec.specs.ReadTerms.{Scope, read_arg, read_args, read_chunk}
 use Rattle.cyp_spec.specs.Specifications.{read_pred, read_preds}
-use Rattle.cyp_spec.specs.Trees.{ArgTree, BlockOf, BracesArg, ChunkTree, InstanceOf, MinusNum, NameMinus, NamePlus, Named, NamedCell, Num, NumPlus, PredTree, TermArg, TermCell, UnionArg}
+use Rattle.cyp_spec.specs.declared.tree.ArgTree.{ArgTree}
+use Rattle.cyp_spec.specs.declared.tree.ArgTree.TheVariants.{BracesArg, TermArg, UnionArg}
+use Rattle.cyp_spec.specs.declared.tree.ChunkTree.{ChunkTree}
+use Rattle.cyp_spec.specs.declared.tree.ChunkTree.TheVariants.{BlockOf, InstanceOf, NamedCell, TermCell}
+use Rattle.cyp_spec.specs.declared.tree.IntTree.TheVariants.{MinusNum, NameMinus, NamePlus, Named, Num, NumPlus}
+use Rattle.cyp_spec.specs.declared.tree.PredTree.{PredTree}
 use Rattle.cyp_spec.specs.Uses.{arg_sorts, param_sort, pred_named, pred_place, sorts_of}
 use Rattle.cyp_spec.proofs.PlainSorts.{param_plain}
 

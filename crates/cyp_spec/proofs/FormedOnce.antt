@@ -11,7 +11,12 @@ use Rattle.cyp_term.specs.declared.term.Term.{Term}
 use Rattle.cyp_term.proofs.Lists.{each_from, map_from}
 use Rattle.cyp_spec.specs.Bodies.{body_lits}
 use Rattle.cyp_spec.specs.ReadTerms.{Scope, compared, part_elems, part_vars, read_int, read_lit, read_lits, read_set, read_union}
-use Rattle.cyp_spec.specs.Trees.{BodyTree, Comparing, Comparison, Inside, IsAbove, IsAtLeast, IsAtMost, IsBelow, IsEqual, IsUnequal, LitTree, Negation, PartTree, SameSets, SetTree, SubSets}
+use Rattle.cyp_spec.specs.LitTrees.{Comparing, Inside, LitTree, Negation, SameSets, SubSets}
+use Rattle.cyp_spec.specs.declared.tree.BodyTree.{BodyTree}
+use Rattle.cyp_spec.specs.declared.tree.Comparison.{Comparison}
+use Rattle.cyp_spec.specs.declared.tree.Comparison.TheVariants.{IsAbove, IsAtLeast, IsAtMost, IsBelow, IsEqual, IsUnequal}
+use Rattle.cyp_spec.specs.declared.tree.PartTree.{PartTree}
+use Rattle.cyp_spec.specs.declared.tree.SetTree.{SetTree}
 use Rattle.cyp_spec.specs.Uses.{set_parts}
 
 compared_once : (c : Comparison) (a b : Term) → lit_once (compared c a b) ≡ true

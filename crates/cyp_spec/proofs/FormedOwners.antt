@@ -16,7 +16,10 @@ use Rattle.cyp_spec.specs.LimitFaults.{overlap_faults, overlaps}
 use Rattle.cyp_spec.specs.NameFaults.{chunk_faults, fault_at, lit_place}
 use Rattle.cyp_spec.specs.ReadTerms.{Scope, read_chunk}
 use Rattle.cyp_spec.specs.Specifications.{read_preds}
-use Rattle.cyp_spec.specs.Trees.{BlockOf, ChunkTree, ClauseTree, InstanceOf, NamedCell, PredTree, TermCell}
+use Rattle.cyp_spec.specs.declared.tree.ChunkTree.{ChunkTree}
+use Rattle.cyp_spec.specs.declared.tree.ChunkTree.TheVariants.{BlockOf, InstanceOf, NamedCell, TermCell}
+use Rattle.cyp_spec.specs.declared.tree.ClauseTree.{ClauseTree}
+use Rattle.cyp_spec.specs.declared.tree.PredTree.{PredTree}
 use Rattle.cyp_spec.specs.Uses.{pred_named}
 use Rattle.cyp_spec.proofs.FormedInstances.{fits_named, kinds_among, none_both}
 use Rattle.cyp_spec.proofs.FormedScope.{test_false}

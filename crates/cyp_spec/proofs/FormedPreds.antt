@@ -17,7 +17,11 @@ use Rattle.cyp_spec.specs.LimitFaults.{extra_pred_fault, guard_of, is_pred_withi
 use Rattle.cyp_spec.specs.NameFaults.{chunk_faults, clause_faults, clauses, fault_at, guard_faults, name_faults, param_names, pred_faults, proc_faults, repeats, sort_faults}
 use Rattle.cyp_spec.specs.Specifications.{clause_scope, read_clause, read_pred, read_preds, read_tree}
 use Rattle.cyp_spec.specs.Bodies.{body_uses}
-use Rattle.cyp_spec.specs.Trees.{ChunkTree, ClauseTree, ParamTree, PredTree, TextTree}
+use Rattle.cyp_spec.specs.declared.tree.ChunkTree.{ChunkTree}
+use Rattle.cyp_spec.specs.declared.tree.ClauseTree.{ClauseTree}
+use Rattle.cyp_spec.specs.declared.tree.ParamTree.{ParamTree}
+use Rattle.cyp_spec.specs.declared.tree.PredTree.{PredTree}
+use Rattle.cyp_spec.specs.declared.tree.TextTree.{TextTree}
 use Rattle.cyp_spec.specs.Uses.{lit_uses, param_sort, param_uses}
 use Rattle.cyp_lex.specs.declared.fault.Fault.{Fault}
 use Rattle.cyp_lex.specs.declared.fault.FaultKind.TheVariants.{TooLarge}

@@ -5,7 +5,7 @@ use Rattle.std.specs.List.{list_any}
 use Rattle.std.specs.Str.{bytes_eq}
 use Rattle.std.proofs.Math.Seq.{drop-append_seam}
 use Rattle.std.proofs.lemmas.Slice.Eq.{bytes_eq-Decides}
-use Rattle.cyp_grammar.specs.Spelling.{Ident}
+use Rattle.cyp_grammar.specs.declared.ident.Ident.{Ident}
 use Rattle.cyp_lex.specs.declared.fault.FaultKind.TheVariants.{DuplicateName}
 use Rattle.cyp_term.specs.declared.term.Sort.TheVariants.{Int}
 use Rattle.cyp_term.proofs.Lists.{Among, Among-cases, Among-left, Among-map, Among-right, map_from, some_from}
@@ -13,7 +13,10 @@ use Rattle.cyp_spec.specs.Bodies.{kept_body}
 use Rattle.cyp_spec.specs.NameFaults.{fault_at, param_names, repeats, set_param_fault}
 use Rattle.cyp_spec.specs.ReadTerms.{Scope, sort_in}
 use Rattle.cyp_spec.specs.Specifications.{goal_scope, universal_scope}
-use Rattle.cyp_spec.specs.Trees.{IntSort, LocSort, ParamTree, SetSort, SortTree, TextTree}
+use Rattle.cyp_spec.specs.declared.tree.ParamTree.{ParamTree}
+use Rattle.cyp_spec.specs.declared.tree.SortTree.{SortTree}
+use Rattle.cyp_spec.specs.declared.tree.SortTree.TheVariants.{IntSort, LocSort, SetSort}
+use Rattle.cyp_spec.specs.declared.tree.TextTree.{TextTree}
 use Rattle.cyp_spec.specs.Uses.{Use, param_sort, param_uses, sort_of}
 use Rattle.cyp_spec.proofs.Distinct.{Distinct, distinct_all}
 use Rattle.cyp_spec.proofs.FormedInstances.{none_both, none_each}

@@ -1,11 +1,11 @@
--- Each goal that is read is raw, and its variables have the sorts of their places.
+-- Each goal that is read is regular, and its variables have the sorts of their places.
 use Rattle.std.proofs.Common.{List, [], ap, false, flat_map, inl, inr, not, refl, subst, suc, sym, true, ℕ, ◌&&◌, ◌++◌, ◌∙◌, ◌∷◌, ◌≡◌}
 use Rattle.std.specs.Prelude.{Bool}
 use Rattle.std.specs.List.{list_all}
 use Rattle.std.proofs.lemmas.Bool.{and_from, and_parts, not-true, not_from_false, or_parts}
 use Rattle.std.proofs.lemmas.List.Folds.{list_any-append}
 use Rattle.cyp_goal.proofs.Renumber.{no_set}
-use Rattle.cyp_goal.specs.Raw.{IsRaw, arg_fits, chunk_fits, is_sorted, lit_fits, set_fits, term_fits}
+use Rattle.cyp_goal.specs.Raw.{IsRegular, arg_fits, chunk_fits, is_sorted, lit_fits, set_fits, term_fits}
 use Rattle.cyp_heap.specs.Chunks.{card_vars, chunks_vars}
 use Rattle.cyp_heap.specs.PredsFormed.{arg_set_vars, arg_terms, chunk_set_vars, chunk_terms, lit_terms}
 use Rattle.cyp_heap.specs.declared.chunk.Arg.{Arg}
@@ -28,7 +28,11 @@ use Rattle.cyp_spec.specs.LimitFaults.{root_of}
 use Rattle.cyp_spec.specs.NameFaults.{name_faults}
 use Rattle.cyp_spec.specs.ReadTerms.{Scope, read_args, read_chunk, read_chunks, read_lits, sort_in}
 use Rattle.cyp_spec.specs.Specifications.{goal_scope, read_goal, read_tree, with_cards}
-use Rattle.cyp_spec.specs.Trees.{BlockOf, BodyTree, ChunkTree, InstanceOf, NamedCell, PredTree, TermCell, TextTree}
+use Rattle.cyp_spec.specs.declared.tree.BodyTree.{BodyTree}
+use Rattle.cyp_spec.specs.declared.tree.ChunkTree.{ChunkTree}
+use Rattle.cyp_spec.specs.declared.tree.ChunkTree.TheVariants.{BlockOf, InstanceOf, NamedCell, TermCell}
+use Rattle.cyp_spec.specs.declared.tree.PredTree.{PredTree}
+use Rattle.cyp_spec.specs.declared.tree.TextTree.{TextTree}
 use Rattle.cyp_spec.specs.Uses.{Use, arg_sorts, param_uses, use_of}
 use Rattle.cyp_spec.proofs.ClauseTerms.{SetVarIs, TermIs, Within, body_set_vars_are, body_terms_are, set_var_more, term_more}
 use Rattle.cyp_spec.proofs.FirstNames.{new_append}
@@ -189,7 +193,7 @@ module _ (t : TextTree) (none : name_faults t ≡ []) where
       (chunks_sorted t.post post_within))
       refl
 
-  -- ---- the goal is raw
+  -- ---- the goal is regular
 
   abbrev goal : Goal
   goal = read_goal t
@@ -200,8 +204,8 @@ module _ (t : TextTree) (none : name_faults t ≡ []) where
       let front : var_in v (goal.program ++ lits_vars goal.pure_pre) ≡ false = (or_parts _ _ (sym (list_any-append (var_eq v) (goal.program ++ lits_vars goal.pure_pre) (chunks_vars goal.pre.chunks)) ∙ all)).0 in
       not_from_false _ (or_parts _ _ (sym (list_any-append (var_eq v) goal.program (lits_vars goal.pure_pre)) ∙ front)).1
 
-  pub raw : IsRaw (root_of (read_tree t))
-  raw = record {
+  pub regular : IsRegular (root_of (read_tree t))
+  regular = record {
     sorted = sorted;
     pre_once = lits_once sc t.pre;
     post_once = lits_once sc t.post;

@@ -4,7 +4,7 @@ use Rattle.cyp_grammar.specs.Beginnings.{Begins}
 use Rattle.cyp_grammar.specs.Lexemes.{Lexeme}
 use Rattle.cyp_grammar.specs.Spelling.{Match}
 use Rattle.cyp_spec.specs.Grammar.{text_spelling}
-use Rattle.cyp_spec.specs.Trees.{TextTree}
+use Rattle.cyp_spec.specs.declared.tree.TextTree.{TextTree}
 
 -- what begins so begins with each part of it
 pub begins_less : (before : List Lexeme) (l : Lexeme) (more : List Lexeme) → Begins text_spelling (before ++ l ∷ more) → Begins text_spelling (before ++ l ∷ [])

@@ -2,7 +2,8 @@
 use Rattle.std.proofs.Common.{◌≡◌, ℕ, Bool, true, false, List, Option, Some, None, ◌⊎◌, inl, inr, refl}
 use Rattle.cyp_lex.specs.declared.token.Sign.TheVariants.{Minus, Plus}
 use Rattle.cyp_grammar.specs.Lexemes.{Name, Number, Said, Symbol}
-use Rattle.cyp_grammar.specs.Spelling.{Any, At, Ident, Mark, ident}
+use Rattle.cyp_grammar.specs.Spelling.{Any, At, Mark, ident}
+use Rattle.cyp_grammar.specs.declared.ident.Ident.{Ident}
 use Rattle.cyp_grammar.proofs.Readers.{NoName, is_name, is_number, is_sign}
 use Rattle.cyp_grammar.proofs.Readings.{Apart, Reads, Within, apart_none, less_reads, none, nowhere, within_self}
 use Rattle.cyp_grammar.proofs.Singles.{one}
@@ -12,7 +13,8 @@ use Rattle.cyp_grammar.proofs.Options.{option_reads, spell_option}
 use Rattle.cyp_grammar.proofs.Choices.{spell_either}
 use Rattle.cyp_grammar.proofs.Tellers.{Tells, ident_reads, number_mark, number_token_reads, placed_mark, placed_number_reads, plainly_reads, sign_mark, sign_place_reads, sign_reads}
 use Rattle.cyp_grammar.proofs.Firsts.{NameBegins, first_reads, name_ident, name_mapped, name_option, name_right}
-use Rattle.cyp_spec.specs.Trees.{IntTree, MinusNum, NameMinus, NamePlus, Named, Num, NumPlus}
+use Rattle.cyp_spec.specs.declared.tree.IntTree.{IntTree}
+use Rattle.cyp_spec.specs.declared.tree.IntTree.TheVariants.{MinusNum, NameMinus, NamePlus, Named, Num, NumPlus}
 use Rattle.cyp_spec.specs.Grammar.{int_spelling}
 use Rattle.cyp_spec.proofs.TermReaders.{AnyTerm, MinusTerm, NameTerm, NumberTerm, any_term, begins_int, begins_other, int_at, int_tree, is_sum, minus_term, name_term, number_term, other_term, sum_sign, sum_sign_of}
 

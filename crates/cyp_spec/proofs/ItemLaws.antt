@@ -14,7 +14,11 @@ use Rattle.cyp_grammar.proofs.Tellers.{Tells, plainly_reads, sign_mark, sign_rea
 use Rattle.cyp_grammar.proofs.Firsts.{NameBegins, first_reads, name_mapped, name_right}
 use Rattle.cyp_grammar.proofs.Repeats.{repeated_spelling, repeating_reads}
 use Rattle.cyp_grammar.proofs.Behinds.{NameLeads, leads_both, leads_either, leads_mapped, leads_no_name}
-use Rattle.cyp_spec.specs.Trees.{Ampersands, Conjunction, ItemTree, LitItem, LitTree, Slashes, TrueItem}
+use Rattle.cyp_spec.specs.LitTrees.{LitTree}
+use Rattle.cyp_spec.specs.declared.tree.Conjunction.{Conjunction}
+use Rattle.cyp_spec.specs.declared.tree.Conjunction.TheVariants.{Ampersands, Slashes}
+use Rattle.cyp_spec.specs.declared.tree.ItemTree.{ItemTree}
+use Rattle.cyp_spec.specs.declared.tree.ItemTree.TheVariants.{LitItem, TrueItem}
 use Rattle.cyp_spec.specs.Grammar.{conjunction_sign, item_spelling, later_item, lit_spelling}
 use Rattle.cyp_spec.proofs.LitReaders.{begins_lit}
 use Rattle.cyp_spec.proofs.BodyReaders.{SomeItems, begins_item, conjunction_of, is_conjunction, item_at, item_tree, items_at, later_item_at}

@@ -29,6 +29,7 @@ pub mod IntLaws
 pub mod ItemLaws
 pub mod KnownSorts
 pub mod LitLaws
+pub mod LitParts
 pub mod LitReaders
 pub mod Names
 pub mod NamesAllowed

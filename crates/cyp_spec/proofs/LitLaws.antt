@@ -12,7 +12,13 @@ use Rattle.cyp_grammar.proofs.Choices.{spell_either}
 use Rattle.cyp_grammar.proofs.Tellers.{Tells, plainly_reads, word_mark, word_reads}
 use Rattle.cyp_grammar.proofs.Firsts.{NameBegins, first_reads, name_both, name_left, or_left, or_right}
 use Rattle.cyp_grammar.proofs.Seconds.{ApartButNames, Behind, Leads, second_reads}
-use Rattle.cyp_spec.specs.Trees.{Braces, Comparison, IntTree, IsAbove, IsAtLeast, IsAtMost, IsBelow, IsEqual, IsUnequal, MinusNum, NameMinus, NamePlus, Named, Num, NumPlus, PartName, PartTree, SetTree}
+use Rattle.cyp_spec.specs.declared.tree.Comparison.{Comparison}
+use Rattle.cyp_spec.specs.declared.tree.Comparison.TheVariants.{IsAbove, IsAtLeast, IsAtMost, IsBelow, IsEqual, IsUnequal}
+use Rattle.cyp_spec.specs.declared.tree.IntTree.{IntTree}
+use Rattle.cyp_spec.specs.declared.tree.IntTree.TheVariants.{MinusNum, NameMinus, NamePlus, Named, Num, NumPlus}
+use Rattle.cyp_spec.specs.declared.tree.PartTree.{PartTree}
+use Rattle.cyp_spec.specs.declared.tree.PartTree.TheVariants.{Braces, PartName}
+use Rattle.cyp_spec.specs.declared.tree.SetTree.{SetTree}
 use Rattle.cyp_spec.specs.Grammar.{comparison_sign, int_spelling, set_spelling}
 use Rattle.cyp_spec.proofs.TermReaders.{begins_int, begins_set, int_at, set_at, set_tree}
 use Rattle.cyp_spec.proofs.LitReaders.{Base, IntLit, Related, SetLit, base_at, begins_base, comparison, comparison_of, int_lit, is_comparison, is_relation, is_set_sign, is_set_tail, related, set_lit, set_sign, set_sign_of}

@@ -5,7 +5,11 @@ use Rattle.cyp_lex.specs.declared.token.Sign.TheVariants.{AtLeast, AtMost, Equal
 use Rattle.cyp_lex.specs.declared.token.Word.TheVariants.{In, Not}
 use Rattle.cyp_grammar.specs.Lexemes.{Lexeme, Said, Symbol}
 use Rattle.cyp_grammar.proofs.Readers.{AName, NoName, Read, both, first_tells, is_word, mapped, one_of, plainly, second_tells, sign_token, single, stop, telling, word_place, word_token}
-use Rattle.cyp_spec.specs.Trees.{Comparing, Comparison, Inside, IntTree, IsAbove, IsAtLeast, IsAtMost, IsBelow, IsEqual, IsUnequal, LitTree, Negation, SameSets, SetTree, SubSets}
+use Rattle.cyp_spec.specs.LitTrees.{Comparing, Inside, LitTree, Negation, SameSets, SubSets}
+use Rattle.cyp_spec.specs.declared.tree.Comparison.{Comparison}
+use Rattle.cyp_spec.specs.declared.tree.Comparison.TheVariants.{IsAbove, IsAtLeast, IsAtMost, IsBelow, IsEqual, IsUnequal}
+use Rattle.cyp_spec.specs.declared.tree.IntTree.{IntTree}
+use Rattle.cyp_spec.specs.declared.tree.SetTree.{SetTree}
 use Rattle.cyp_spec.proofs.TermReaders.{begins_int, begins_set, int_at, set_at}
 
 abbrev pub comparison_of : Said → Option Comparison

@@ -15,7 +15,20 @@ use Rattle.cyp_term.proofs.Lists.{Among, Among-cases, Among-left, Among-right, f
 use Rattle.cyp_term.proofs.Repeats.{without_repeats_out}
 use Rattle.cyp_spec.specs.Bodies.{body_lits, in_kinds, is_name, is_turned, kept_body, kept_lit, kept_parts, kept_set}
 use Rattle.cyp_spec.specs.ReadTerms.{Scope, compared, part_elems, part_vars, read_arg, read_args, read_chunk, read_chunks, read_int, read_lit, read_lits, read_set, read_union, use_var}
-use Rattle.cyp_spec.specs.Trees.{ArgTree, BlockOf, BodyTree, Braces, BracesArg, ChunkTree, Comparing, Comparison, Inside, InstanceOf, IntTree, IsAbove, IsAtLeast, IsAtMost, IsBelow, IsEqual, IsUnequal, LitTree, MinusNum, NameMinus, NamePlus, Named, NamedCell, Negation, Num, NumPlus, PartName, PartTree, PredTree, SameSets, SetTree, SubSets, TermArg, TermCell, UnionArg}
+use Rattle.cyp_spec.specs.LitTrees.{Comparing, Inside, LitTree, Negation, SameSets, SubSets}
+use Rattle.cyp_spec.specs.declared.tree.ArgTree.{ArgTree}
+use Rattle.cyp_spec.specs.declared.tree.ArgTree.TheVariants.{BracesArg, TermArg, UnionArg}
+use Rattle.cyp_spec.specs.declared.tree.BodyTree.{BodyTree}
+use Rattle.cyp_spec.specs.declared.tree.ChunkTree.{ChunkTree}
+use Rattle.cyp_spec.specs.declared.tree.ChunkTree.TheVariants.{BlockOf, InstanceOf, NamedCell, TermCell}
+use Rattle.cyp_spec.specs.declared.tree.Comparison.{Comparison}
+use Rattle.cyp_spec.specs.declared.tree.Comparison.TheVariants.{IsAbove, IsAtLeast, IsAtMost, IsBelow, IsEqual, IsUnequal}
+use Rattle.cyp_spec.specs.declared.tree.IntTree.{IntTree}
+use Rattle.cyp_spec.specs.declared.tree.IntTree.TheVariants.{MinusNum, NameMinus, NamePlus, Named, Num, NumPlus}
+use Rattle.cyp_spec.specs.declared.tree.PartTree.{PartTree}
+use Rattle.cyp_spec.specs.declared.tree.PartTree.TheVariants.{Braces, PartName}
+use Rattle.cyp_spec.specs.declared.tree.PredTree.{PredTree}
+use Rattle.cyp_spec.specs.declared.tree.SetTree.{SetTree}
 use Rattle.cyp_spec.specs.Uses.{Use, arg_sorts, arg_uses, args_uses, chunk_uses, int_uses, part_uses, set_parts, use_of}
 
 -- the variable is that of one of these names

@@ -6,7 +6,7 @@ use Rattle.cyp_grammar.specs.Lexemes.{Lexeme}
 use Rattle.cyp_grammar.specs.Spelling.{Match}
 use Rattle.cyp_spec.specs.Grammar.{text_spelling}
 use Rattle.cyp_spec.specs.GrammarFaults.{AllowsName, name_at}
-use Rattle.cyp_spec.specs.Trees.{TextTree}
+use Rattle.cyp_spec.specs.declared.tree.TextTree.{TextTree}
 use Rattle.cyp_spec.proofs.Fronts.{begins_less, spelled_begins}
 use Rattle.cyp_spec.proofs.Parted.{Parted, longer, parted, same, shorter}
 

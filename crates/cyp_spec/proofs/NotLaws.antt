@@ -13,7 +13,9 @@ use Rattle.cyp_grammar.proofs.Choices.{spell_either}
 use Rattle.cyp_grammar.proofs.Tellers.{sign_mark, sign_reads, word_place_reads}
 use Rattle.cyp_grammar.proofs.Firsts.{NameBegins, first_reads, name_mapped, name_right, or_right}
 use Rattle.cyp_grammar.proofs.Behinds.{NameLeads, leads_either, leads_mapped}
-use Rattle.cyp_spec.specs.Trees.{Comparing, Inside, IntTree, LitTree, Negation, SameSets, SetTree, SubSets}
+use Rattle.cyp_spec.specs.LitTrees.{Comparing, Inside, LitTree, Negation, SameSets, SubSets}
+use Rattle.cyp_spec.specs.declared.tree.IntTree.{IntTree}
+use Rattle.cyp_spec.specs.declared.tree.SetTree.{SetTree}
 use Rattle.cyp_spec.specs.Grammar.{lit_spelling}
 use Rattle.cyp_spec.proofs.LitReaders.{Base, Negated, Related, begins_base, begins_lit, lit_at, lit_in, lit_tree}
 use Rattle.cyp_spec.proofs.LitLaws.{base_behind, base_reads, base_spelling, is_lit_tail, lit_ends, name_base}

@@ -7,7 +7,7 @@ use Rattle.cyp_lex.specs.declared.fault.Fault.{Fault}
 use Rattle.cyp_lex.specs.declared.fault.FaultKind.{FaultKind}
 use Rattle.cyp_spec.specs.Grammar.{text_spelling}
 use Rattle.cyp_spec.specs.GrammarFaults.{GrammarFault, IsKind, RefusesEnd, RefusesLexeme, SpoilsSum, TakesName, other, reserved, spoiled}
-use Rattle.cyp_spec.specs.Trees.{TextTree}
+use Rattle.cyp_spec.specs.declared.tree.TextTree.{TextTree}
 use Rattle.cyp_spec.proofs.Fronts.{begins_less, spelled_begins}
 use Rattle.cyp_spec.proofs.Parted.{Parted, longer, parted, same, shorter}
 

@@ -1,11 +1,35 @@
 -- A plain reader of lexemes, for worked examples alone: nothing is proved of it.
 use Rattle.std.specs.Prelude.{Bool, List, None, Option, Some, [], false, map, option_map, suc, true, zero, ℕ, ◌++◌, ◌∷◌}
 use Rattle.cyp_grammar.specs.Lexemes.{Lexeme, Name, Number, Reserved, Said, Symbol}
-use Rattle.cyp_grammar.specs.Spelling.{Ident}
+use Rattle.cyp_grammar.specs.declared.ident.Ident.{Ident}
 use Rattle.cyp_lex.specs.declared.token.Sign.{Sign}
 use Rattle.cyp_lex.specs.declared.token.Sign.TheVariants.{AndAnd, AtLeast, AtMost, Bar, Comma, Equal, Greater, Implies, LeftBrace, LeftBracket, LeftParen, Less, Minus, Plus, PointsTo, RightBrace, RightBracket, RightParen, Same, Semicolon, SlashAnd, Subset, TwoPluses, TwoStars, Unequal}
 use Rattle.cyp_lex.specs.declared.token.Word.TheVariants.{Emp, In, Int, Loc, Not, Predicate, Set, True, Void}
-use Rattle.cyp_spec.specs.Trees.{Ampersands, ArgTree, BlockOf, BodyTree, Braces, BracesArg, ChunkTree, ClauseTree, Comparing, Comparison, Conjunction, Inside, InstanceOf, IntSort, IntTree, IsAbove, IsAtLeast, IsAtMost, IsBelow, IsEqual, IsUnequal, ItemTree, Items, LitItem, LitTree, LocSort, MinusNum, NameMinus, NamePlus, Named, NamedCell, Negation, NoItems, Num, NumPlus, ParamTree, PartName, PartTree, PredTree, PureTree, SameSets, SetSort, SetTree, Slashes, SortTree, SubSets, TermArg, TermCell, TextTree, TrueItem, UnionArg}
+use Rattle.cyp_spec.specs.LitTrees.{Comparing, Inside, LitTree, Negation, SameSets, SubSets}
+use Rattle.cyp_spec.specs.declared.tree.ArgTree.{ArgTree}
+use Rattle.cyp_spec.specs.declared.tree.ArgTree.TheVariants.{BracesArg, TermArg, UnionArg}
+use Rattle.cyp_spec.specs.declared.tree.BodyTree.{BodyTree}
+use Rattle.cyp_spec.specs.declared.tree.ChunkTree.{ChunkTree}
+use Rattle.cyp_spec.specs.declared.tree.ChunkTree.TheVariants.{BlockOf, InstanceOf, NamedCell, TermCell}
+use Rattle.cyp_spec.specs.declared.tree.ClauseTree.{ClauseTree}
+use Rattle.cyp_spec.specs.declared.tree.Comparison.{Comparison}
+use Rattle.cyp_spec.specs.declared.tree.Comparison.TheVariants.{IsAbove, IsAtLeast, IsAtMost, IsBelow, IsEqual, IsUnequal}
+use Rattle.cyp_spec.specs.declared.tree.Conjunction.{Conjunction}
+use Rattle.cyp_spec.specs.declared.tree.Conjunction.TheVariants.{Ampersands, Slashes}
+use Rattle.cyp_spec.specs.declared.tree.IntTree.{IntTree}
+use Rattle.cyp_spec.specs.declared.tree.IntTree.TheVariants.{MinusNum, NameMinus, NamePlus, Named, Num, NumPlus}
+use Rattle.cyp_spec.specs.declared.tree.ItemTree.{ItemTree}
+use Rattle.cyp_spec.specs.declared.tree.ItemTree.TheVariants.{LitItem, TrueItem}
+use Rattle.cyp_spec.specs.declared.tree.ParamTree.{ParamTree}
+use Rattle.cyp_spec.specs.declared.tree.PartTree.{PartTree}
+use Rattle.cyp_spec.specs.declared.tree.PartTree.TheVariants.{Braces, PartName}
+use Rattle.cyp_spec.specs.declared.tree.PredTree.{PredTree}
+use Rattle.cyp_spec.specs.declared.tree.PureTree.{PureTree}
+use Rattle.cyp_spec.specs.declared.tree.PureTree.TheVariants.{Items, NoItems}
+use Rattle.cyp_spec.specs.declared.tree.SetTree.{SetTree}
+use Rattle.cyp_spec.specs.declared.tree.SortTree.{SortTree}
+use Rattle.cyp_spec.specs.declared.tree.SortTree.TheVariants.{IntSort, LocSort, SetSort}
+use Rattle.cyp_spec.specs.declared.tree.TextTree.{TextTree}
 
 abbrev pub Toks : Type 0
 Toks = List (Said × ℕ)

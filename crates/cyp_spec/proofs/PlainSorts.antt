@@ -2,13 +2,27 @@
 use Rattle.std.proofs.Common.{List, None, Option, Some, [], ap, false, filter, flat_map, inl, inr, map, not, refl, sym, true, ◌++◌, ◌∙◌, ◌∷◌, ◌≡◌, ◌≢◌}
 use Rattle.std.specs.Prelude.{Bool, cond, length, ◌==◌, ℕ}
 use Rattle.std.specs.Str.{bytes_eq}
-use Rattle.cyp_grammar.specs.Spelling.{Ident}
+use Rattle.cyp_grammar.specs.declared.ident.Ident.{Ident}
 use Rattle.cyp_term.specs.declared.term.Sort.{Sort}
 use Rattle.cyp_term.specs.declared.term.Sort.TheVariants.{Card, Int, Set}
 use Rattle.cyp_term.proofs.Lists.{Among, Among-cases, flat_out, map_from}
 use Rattle.cyp_spec.specs.Bodies.{body_lits, in_kinds, is_name, is_turned, kept_body, kept_lit, kept_parts, kept_set}
 use Rattle.cyp_spec.specs.ReadTerms.{Scope, sort_in}
-use Rattle.cyp_spec.specs.Trees.{ArgTree, BlockOf, BodyTree, Braces, BracesArg, ChunkTree, Comparing, Inside, InstanceOf, IntSort, IntTree, LitTree, LocSort, MinusNum, NameMinus, NamePlus, Named, NamedCell, Negation, Num, NumPlus, ParamTree, PartName, PartTree, PredTree, SameSets, SetSort, SetTree, SortTree, SubSets, TermArg, TermCell, UnionArg}
+use Rattle.cyp_spec.specs.LitTrees.{Comparing, Inside, LitTree, Negation, SameSets, SubSets}
+use Rattle.cyp_spec.specs.declared.tree.ArgTree.{ArgTree}
+use Rattle.cyp_spec.specs.declared.tree.ArgTree.TheVariants.{BracesArg, TermArg, UnionArg}
+use Rattle.cyp_spec.specs.declared.tree.BodyTree.{BodyTree}
+use Rattle.cyp_spec.specs.declared.tree.ChunkTree.{ChunkTree}
+use Rattle.cyp_spec.specs.declared.tree.ChunkTree.TheVariants.{BlockOf, InstanceOf, NamedCell, TermCell}
+use Rattle.cyp_spec.specs.declared.tree.IntTree.{IntTree}
+use Rattle.cyp_spec.specs.declared.tree.IntTree.TheVariants.{MinusNum, NameMinus, NamePlus, Named, Num, NumPlus}
+use Rattle.cyp_spec.specs.declared.tree.ParamTree.{ParamTree}
+use Rattle.cyp_spec.specs.declared.tree.PartTree.{PartTree}
+use Rattle.cyp_spec.specs.declared.tree.PartTree.TheVariants.{Braces, PartName}
+use Rattle.cyp_spec.specs.declared.tree.PredTree.{PredTree}
+use Rattle.cyp_spec.specs.declared.tree.SetTree.{SetTree}
+use Rattle.cyp_spec.specs.declared.tree.SortTree.{SortTree}
+use Rattle.cyp_spec.specs.declared.tree.SortTree.TheVariants.{IntSort, LocSort, SetSort}
 use Rattle.cyp_spec.specs.Uses.{Use, arg_sorts, arg_uses, args_uses, chunk_uses, int_uses, param_sort, param_uses, part_uses, pred_named, set_parts, sort_of, sorts_of, use_of}
 
 -- the name stands for no cardinality

@@ -1,7 +1,7 @@
 -- A specification that is read is what a tree without faults says.
 use Rattle.std.proofs.Common.{Err, List, None, Ok, Option, Result, Some, [], false, inl, inr, length, map, refl, subst, true, ℕ, ◌∷◌, ◌≡◌}
 use Rattle.std.specs.Prelude.{Bool, IsTrue, cond, nat_le}
-use Rattle.cyp_goal.specs.Raw.{IsRaw}
+use Rattle.cyp_goal.specs.Raw.{IsRegular}
 use Rattle.cyp_grammar.specs.Lexemes.{Lexeme, lexeme_of}
 use Rattle.cyp_heap.specs.Formed.{IsFormed}
 use Rattle.cyp_heap.specs.PredsFormed.{IsFormedPreds}
@@ -12,13 +12,13 @@ use Rattle.cyp_lex.specs.declared.token.Token.{Token}
 use Rattle.cyp_spec.specs.LimitFaults.{is_root_within, limit_faults, root_of}
 use Rattle.cyp_spec.specs.NameFaults.{fault_at, name_faults}
 use Rattle.cyp_spec.specs.Reading.{IsReadBy, IsReadFrom, IsReading, IsReadingOf, least_fault, unless_fault}
-use Rattle.cyp_spec.specs.ReadingLaws.{ReadIsFormed, ReadIsRaw, ReadIsSorted, ReadPredsAreFormed}
+use Rattle.cyp_spec.specs.ReadingLaws.{ReadIsFormed, ReadIsRegular, ReadIsSorted, ReadPredsAreFormed}
 use Rattle.cyp_spec.specs.Specifications.{Specification, read_tree}
-use Rattle.cyp_spec.specs.Trees.{TextTree}
+use Rattle.cyp_spec.specs.declared.tree.TextTree.{TextTree}
 use Rattle.cyp_spec.proofs.FormedGoals.{formed}
 use Rattle.cyp_spec.proofs.FormedPreds.{formed_preds}
 use Rattle.cyp_spec.proofs.FormedInstances.{none_both, test_true}
-use Rattle.cyp_spec.proofs.FormedSorts.{raw}
+use Rattle.cyp_spec.proofs.FormedSorts.{regular}
 
 -- the tree that was read, and that it has no faults
 pub record ReadTree (s : Specification) : Type 0 where
@@ -63,13 +63,13 @@ read_is_formed bytes s a =
     let r : ReadTree s = tree_read bytes s a in
     subst (λ (x : Specification). IsFormed x.preds x.goal × IsTrue (is_root_within x)) r.says (formed r.tree r.names_right, root_within r.tree r.within)
 
-pub read_is_raw : ReadIsRaw
-read_is_raw bytes s a =
+pub read_is_regular : ReadIsRegular
+read_is_regular bytes s a =
     let r : ReadTree s = tree_read bytes s a in
-    subst (λ (x : Specification). IsRaw (root_of x)) r.says (raw r.tree r.names_right)
+    subst (λ (x : Specification). IsRegular (root_of x)) r.says (regular r.tree r.names_right)
 
 pub read_is_sorted : ReadIsSorted
-read_is_sorted bytes s a = (read_is_raw bytes s a).sorted
+read_is_sorted bytes s a = (read_is_regular bytes s a).sorted
 
 pub read_preds_are_formed : ReadPredsAreFormed
 read_preds_are_formed bytes s a =

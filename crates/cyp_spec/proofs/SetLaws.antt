@@ -2,7 +2,8 @@
 use Rattle.std.proofs.Common.{◌≡◌, ℕ, Bool, true, false, List, [], ◌∷◌, ◌⊎◌, inl, inr, refl}
 use Rattle.cyp_lex.specs.declared.token.Sign.TheVariants.{Comma, LeftBrace, Minus, Plus, RightBrace, TwoPluses}
 use Rattle.cyp_grammar.specs.Lexemes.{Lexeme, Name, Said, Symbol}
-use Rattle.cyp_grammar.specs.Spelling.{At, Ident, Mark, ident}
+use Rattle.cyp_grammar.specs.Spelling.{At, Mark, ident}
+use Rattle.cyp_grammar.specs.declared.ident.Ident.{Ident}
 use Rattle.cyp_grammar.proofs.Readers.{Read, both, is_name, is_sign, one_of, sign_token}
 use Rattle.cyp_grammar.proofs.Readings.{Apart, Reads, Within, apart_none, none, nowhere, within_self}
 use Rattle.cyp_grammar.proofs.Singles.{one}
@@ -12,7 +13,10 @@ use Rattle.cyp_grammar.proofs.Choices.{spell_either}
 use Rattle.cyp_grammar.proofs.Lists.{listed_spelling}
 use Rattle.cyp_grammar.proofs.Tellers.{ident_reads, sign_listing_reads, sign_mark, sign_place_reads, sign_reads}
 use Rattle.cyp_grammar.proofs.Firsts.{NameBegins, first_reads, name_both, name_ident, name_listed, name_mapped, name_right}
-use Rattle.cyp_spec.specs.Trees.{Braces, IntTree, PartName, PartTree, SetTree}
+use Rattle.cyp_spec.specs.declared.tree.IntTree.{IntTree}
+use Rattle.cyp_spec.specs.declared.tree.PartTree.{PartTree}
+use Rattle.cyp_spec.specs.declared.tree.PartTree.TheVariants.{Braces, PartName}
+use Rattle.cyp_spec.specs.declared.tree.SetTree.{SetTree}
 use Rattle.cyp_spec.specs.Grammar.{int_spelling, part_spelling, set_spelling}
 use Rattle.cyp_spec.proofs.TermReaders.{Inner, begins_int, begins_set, braces_at, inner, part_at, part_tree, parts_at, set_at, set_tree, terms}
 use Rattle.cyp_spec.proofs.IntLaws.{int_ends, int_reads, name_int}

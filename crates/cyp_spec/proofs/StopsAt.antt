@@ -7,7 +7,7 @@ use Rattle.cyp_grammar.proofs.Stops.{IsReading, IsStop, whole_of}
 use Rattle.cyp_spec.specs.Grammar.{text_spelling}
 use Rattle.cyp_spec.specs.GrammarFaults.{AllowsName, EndsInFirstNumber, name_at}
 use Rattle.cyp_spec.proofs.TextReaders.{text_at}
-use Rattle.cyp_spec.specs.Trees.{TextTree}
+use Rattle.cyp_spec.specs.declared.tree.TextTree.{TextTree}
 use Rattle.cyp_spec.proofs.Decided.{reading}
 use Rattle.cyp_spec.proofs.Parted.{one_last}
 

@@ -3,9 +3,13 @@ use Rattle.std.specs.Prelude.{Bool, List, None, Option, Some, [], false, true, â
 use Rattle.std.proofs.Common.{inl, inr}
 use Rattle.cyp_lex.specs.declared.token.Sign.TheVariants.{Comma, LeftBrace, Minus, Plus, RightBrace, TwoPluses}
 use Rattle.cyp_grammar.specs.Lexemes.{Lexeme, Said, Symbol}
-use Rattle.cyp_grammar.specs.Spelling.{Ident}
+use Rattle.cyp_grammar.specs.declared.ident.Ident.{Ident}
 use Rattle.cyp_grammar.proofs.Readers.{AName, NoName, Read, both, closed, first_tells, ident_token, is_name, is_number, is_sign, listing, mapped, number_token, one_of, option_after, placed_number, plainly, sign_place, sign_token, single, telling}
-use Rattle.cyp_spec.specs.Trees.{Braces, IntTree, MinusNum, NameMinus, NamePlus, Named, Num, NumPlus, PartName, PartTree, SetTree}
+use Rattle.cyp_spec.specs.declared.tree.IntTree.{IntTree}
+use Rattle.cyp_spec.specs.declared.tree.IntTree.TheVariants.{MinusNum, NameMinus, NamePlus, Named, Num, NumPlus}
+use Rattle.cyp_spec.specs.declared.tree.PartTree.{PartTree}
+use Rattle.cyp_spec.specs.declared.tree.PartTree.TheVariants.{Braces, PartName}
+use Rattle.cyp_spec.specs.declared.tree.SetTree.{SetTree}
 
 -- true for a plus
 abbrev pub sum_sign_of : Said â†’ Option Bool

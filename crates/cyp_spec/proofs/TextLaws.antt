@@ -13,7 +13,12 @@ use Rattle.cyp_grammar.proofs.Mapped.{mapped_reads}
 use Rattle.cyp_grammar.proofs.Tellers.{Tells, ident_reads, placed_reads, sign_mark, sign_place_reads, sign_reads, word_mark, word_reads}
 use Rattle.cyp_grammar.proofs.Enclosures.{enclosed_reads, enclosed_spelling}
 use Rattle.cyp_grammar.proofs.Repeats.{repeated_spelling, repeating_reads}
-use Rattle.cyp_spec.specs.Trees.{ClauseTree, IntSort, LocSort, ParamTree, PredTree, SetSort, SortTree, TextTree}
+use Rattle.cyp_spec.specs.declared.tree.ClauseTree.{ClauseTree}
+use Rattle.cyp_spec.specs.declared.tree.ParamTree.{ParamTree}
+use Rattle.cyp_spec.specs.declared.tree.PredTree.{PredTree}
+use Rattle.cyp_spec.specs.declared.tree.SortTree.{SortTree}
+use Rattle.cyp_spec.specs.declared.tree.SortTree.TheVariants.{IntSort, LocSort, SetSort}
+use Rattle.cyp_spec.specs.declared.tree.TextTree.{TextTree}
 use Rattle.cyp_spec.specs.Grammar.{clause_spelling, in_braces, lit_spelling, param_spelling, params_spelling, pred_spelling, sort_word, text_spelling}
 use Rattle.cyp_spec.proofs.TextReaders.{InParens, SomeClause, SomeClauses, SomeParam, SomePred, SomeProcedure, clause_at, clause_tree, clauses_at, is_sort, param_at, param_tree, params_at, params_tree, pred_at, pred_tree, procedure_at, sort_of, text_at, text_tree}
 use Rattle.cyp_spec.proofs.LitLaws.{lit_ends}

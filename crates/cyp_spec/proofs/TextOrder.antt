@@ -4,7 +4,17 @@ use Rattle.std.specs.Prelude.{Bool, cond}
 use Rattle.cyp_term.specs.declared.term.Sort.{Sort}
 use Rattle.cyp_term.proofs.Lists.{Among, Among-cases, Among-left, Among-right, filter_out, flat_in, flat_out}
 use Rattle.cyp_spec.specs.Bodies.{body_lits, body_uses, in_kinds, is_name, is_turned, kept_body, kept_lit, kept_parts, kept_set}
-use Rattle.cyp_spec.specs.Trees.{ArgTree, BlockOf, BodyTree, Braces, BracesArg, ChunkTree, Comparing, Inside, InstanceOf, LitTree, Named, NamedCell, Negation, PartName, PartTree, PredTree, SameSets, SetTree, SubSets, TermArg, TermCell, UnionArg}
+use Rattle.cyp_spec.specs.LitTrees.{Comparing, Inside, LitTree, Negation, SameSets, SubSets}
+use Rattle.cyp_spec.specs.declared.tree.ArgTree.{ArgTree}
+use Rattle.cyp_spec.specs.declared.tree.ArgTree.TheVariants.{BracesArg, TermArg, UnionArg}
+use Rattle.cyp_spec.specs.declared.tree.BodyTree.{BodyTree}
+use Rattle.cyp_spec.specs.declared.tree.ChunkTree.{ChunkTree}
+use Rattle.cyp_spec.specs.declared.tree.ChunkTree.TheVariants.{BlockOf, InstanceOf, NamedCell, TermCell}
+use Rattle.cyp_spec.specs.declared.tree.IntTree.TheVariants.{Named}
+use Rattle.cyp_spec.specs.declared.tree.PartTree.{PartTree}
+use Rattle.cyp_spec.specs.declared.tree.PartTree.TheVariants.{Braces, PartName}
+use Rattle.cyp_spec.specs.declared.tree.PredTree.{PredTree}
+use Rattle.cyp_spec.specs.declared.tree.SetTree.{SetTree}
 use Rattle.cyp_spec.specs.Uses.{Use, arg_sorts, arg_uses, args_uses, chunk_uses, int_uses, lit_uses, part_uses, parts_uses, set_parts, set_uses}
 use Rattle.cyp_spec.proofs.FormedInstances.{kinds_among}
 

@@ -3,9 +3,16 @@ use Rattle.std.specs.Prelude.{Bool, List, None, Option, Some, ℕ}
 use Rattle.cyp_lex.specs.declared.token.Sign.TheVariants.{Bar, Implies, LeftBrace, LeftParen, RightBrace, RightParen}
 use Rattle.cyp_lex.specs.declared.token.Word.TheVariants.{Int, Loc, Predicate, Set, Void}
 use Rattle.cyp_grammar.specs.Lexemes.{Lexeme, Reserved, Said}
-use Rattle.cyp_grammar.specs.Spelling.{Ident}
+use Rattle.cyp_grammar.specs.declared.ident.Ident.{Ident}
 use Rattle.cyp_grammar.proofs.Readers.{NoName, Read, both, enclosed, ident_token, is_sign, is_word, mapped, placed, repeating, sign_place, sign_token, single, telling, word_token}
-use Rattle.cyp_spec.specs.Trees.{BodyTree, ClauseTree, IntSort, LitTree, LocSort, ParamTree, PredTree, SetSort, SortTree, TextTree}
+use Rattle.cyp_spec.specs.LitTrees.{LitTree}
+use Rattle.cyp_spec.specs.declared.tree.BodyTree.{BodyTree}
+use Rattle.cyp_spec.specs.declared.tree.ClauseTree.{ClauseTree}
+use Rattle.cyp_spec.specs.declared.tree.ParamTree.{ParamTree}
+use Rattle.cyp_spec.specs.declared.tree.PredTree.{PredTree}
+use Rattle.cyp_spec.specs.declared.tree.SortTree.{SortTree}
+use Rattle.cyp_spec.specs.declared.tree.SortTree.TheVariants.{IntSort, LocSort, SetSort}
+use Rattle.cyp_spec.specs.declared.tree.TextTree.{TextTree}
 use Rattle.cyp_spec.proofs.LitReaders.{lit_at}
 use Rattle.cyp_spec.proofs.BodyReaders.{body_at}
 

@@ -8,7 +8,7 @@ use Rattle.cyp_lex.specs.declared.token.Token.{Token}
 use Rattle.cyp_spec.specs.Reading.{IsReadBy, IsReadFrom, IsReadingOf, judge}
 use Rattle.cyp_spec.specs.ReadingLaws.{OneReading, OneTree, ReadNotRefused}
 use Rattle.cyp_spec.specs.Specifications.{Specification}
-use Rattle.cyp_spec.specs.Trees.{TextTree}
+use Rattle.cyp_spec.specs.declared.tree.TextTree.{TextTree}
 use Rattle.cyp_spec.proofs.OneFault.{one_fault, spelled_has_none}
 
 abbrev Answer : Type 0

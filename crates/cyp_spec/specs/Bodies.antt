@@ -1,6 +1,20 @@
 -- The literals and chunks of a body, and their names in the order of the text and in the order in which they are kept.
 use Rattle.std.specs.Prelude.{[], Bool, List, cond, false, filter, flat_map, not, true, ◌++◌, ◌∷◌}
-use Rattle.cyp_spec.specs.Trees.{BlockOf, BodyTree, Braces, ChunkTree, Comparing, Comparison, Conjunction, Inside, InstanceOf, IsAbove, IsAtLeast, IsAtMost, IsBelow, ItemTree, Items, LitItem, LitTree, NamedCell, Negation, NoItems, PartName, PartTree, PredTree, PureTree, SameSets, SetTree, SubSets, TermCell, TrueItem}
+use Rattle.cyp_spec.specs.LitTrees.{Comparing, Inside, LitTree, Negation, SameSets, SubSets}
+use Rattle.cyp_spec.specs.declared.tree.BodyTree.{BodyTree}
+use Rattle.cyp_spec.specs.declared.tree.ChunkTree.{ChunkTree}
+use Rattle.cyp_spec.specs.declared.tree.ChunkTree.TheVariants.{BlockOf, InstanceOf, NamedCell, TermCell}
+use Rattle.cyp_spec.specs.declared.tree.Comparison.{Comparison}
+use Rattle.cyp_spec.specs.declared.tree.Comparison.TheVariants.{IsAbove, IsAtLeast, IsAtMost, IsBelow}
+use Rattle.cyp_spec.specs.declared.tree.Conjunction.{Conjunction}
+use Rattle.cyp_spec.specs.declared.tree.ItemTree.{ItemTree}
+use Rattle.cyp_spec.specs.declared.tree.ItemTree.TheVariants.{LitItem, TrueItem}
+use Rattle.cyp_spec.specs.declared.tree.PartTree.{PartTree}
+use Rattle.cyp_spec.specs.declared.tree.PartTree.TheVariants.{Braces, PartName}
+use Rattle.cyp_spec.specs.declared.tree.PredTree.{PredTree}
+use Rattle.cyp_spec.specs.declared.tree.PureTree.{PureTree}
+use Rattle.cyp_spec.specs.declared.tree.PureTree.TheVariants.{Items, NoItems}
+use Rattle.cyp_spec.specs.declared.tree.SetTree.{SetTree}
 use Rattle.cyp_spec.specs.Uses.{Use, chunk_uses, int_uses, lit_uses, part_uses, parts_uses, set_parts}
 
 -- `true` adds no literal

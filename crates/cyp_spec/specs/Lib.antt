@@ -2,6 +2,7 @@ pub mod Bodies
 pub mod Grammar
 pub mod GrammarFaults
 pub mod LimitFaults
+pub mod LitTrees
 pub mod NameFaults
 pub mod PrintedTrees
 pub mod Printing
@@ -9,5 +10,4 @@ pub mod ReadTerms
 pub mod Reading
 pub mod ReadingLaws
 pub mod Specifications
-pub mod Trees
 pub mod Uses

@@ -12,7 +12,13 @@ use Rattle.cyp_term.specs.declared.lit.Lit.{Lit}
 use Rattle.cyp_spec.specs.Bodies.{is_cell, is_instance}
 use Rattle.cyp_spec.specs.NameFaults.{clauses, fault_at, lit_place}
 use Rattle.cyp_spec.specs.Specifications.{Specification, read_tree, read_clause, read_pred}
-use Rattle.cyp_spec.specs.Trees.{BlockOf, BodyTree, ChunkTree, ClauseTree, ParamTree, PredTree, TextTree}
+use Rattle.cyp_spec.specs.declared.tree.BodyTree.{BodyTree}
+use Rattle.cyp_spec.specs.declared.tree.ChunkTree.{ChunkTree}
+use Rattle.cyp_spec.specs.declared.tree.ChunkTree.TheVariants.{BlockOf}
+use Rattle.cyp_spec.specs.declared.tree.ClauseTree.{ClauseTree}
+use Rattle.cyp_spec.specs.declared.tree.ParamTree.{ParamTree}
+use Rattle.cyp_spec.specs.declared.tree.PredTree.{PredTree}
+use Rattle.cyp_spec.specs.declared.tree.TextTree.{TextTree}
 
 -- ---- guards and cells
 

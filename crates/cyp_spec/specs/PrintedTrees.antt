@@ -1,6 +1,6 @@
 -- The tree by which a specification is printed. Its places say nothing.
 use Rattle.std.specs.Prelude.{[], List, None, Option, Some, codes, decimal, filter, length, map, negsuc, pos, slice_get, suc, zero, ℕ, ℤ, ◌++◌, ◌∷◌}
-use Rattle.cyp_grammar.specs.Spelling.{Ident}
+use Rattle.cyp_grammar.specs.declared.ident.Ident.{Ident}
 use Rattle.cyp_heap.specs.declared.chunk.Arg.{Arg}
 use Rattle.cyp_heap.specs.declared.chunk.Arg.TheVariants.{Int as IntArg, Set as SetArg}
 use Rattle.cyp_heap.specs.declared.chunk.Chunk.{Chunk}
@@ -16,7 +16,28 @@ use Rattle.cyp_term.specs.declared.term.Sort.{Sort}
 use Rattle.cyp_term.specs.declared.term.Sort.TheVariants.{Set}
 use Rattle.cyp_term.specs.declared.term.Term.{Term}
 use Rattle.cyp_term.specs.declared.term.Var.{Var}
-use Rattle.cyp_spec.specs.Trees.{Ampersands, ArgTree, BlockOf, BodyTree, Braces, BracesArg, ChunkTree, ClauseTree, Comparing, Conjunction, Inside, InstanceOf, IntSort, IntTree, IsAtMost, IsBelow, IsEqual, IsUnequal, ItemTree, Items, LitItem, LitTree, MinusNum, NameMinus, NamePlus, Named, NamedCell, Negation, NoItems, Num, ParamTree, PartName, PartTree, PureTree, SameSets, SetSort, SetTree, SortTree, SubSets, TermArg, TermCell, UnionArg}
+use Rattle.cyp_spec.specs.LitTrees.{Comparing, Inside, LitTree, Negation, SameSets, SubSets}
+use Rattle.cyp_spec.specs.declared.tree.ArgTree.{ArgTree}
+use Rattle.cyp_spec.specs.declared.tree.ArgTree.TheVariants.{BracesArg, TermArg, UnionArg}
+use Rattle.cyp_spec.specs.declared.tree.BodyTree.{BodyTree}
+use Rattle.cyp_spec.specs.declared.tree.ChunkTree.{ChunkTree}
+use Rattle.cyp_spec.specs.declared.tree.ChunkTree.TheVariants.{BlockOf, InstanceOf, NamedCell, TermCell}
+use Rattle.cyp_spec.specs.declared.tree.ClauseTree.{ClauseTree}
+use Rattle.cyp_spec.specs.declared.tree.Comparison.TheVariants.{IsAtMost, IsBelow, IsEqual, IsUnequal}
+use Rattle.cyp_spec.specs.declared.tree.Conjunction.{Conjunction}
+use Rattle.cyp_spec.specs.declared.tree.Conjunction.TheVariants.{Ampersands}
+use Rattle.cyp_spec.specs.declared.tree.IntTree.{IntTree}
+use Rattle.cyp_spec.specs.declared.tree.IntTree.TheVariants.{MinusNum, NameMinus, NamePlus, Named, Num}
+use Rattle.cyp_spec.specs.declared.tree.ItemTree.{ItemTree}
+use Rattle.cyp_spec.specs.declared.tree.ItemTree.TheVariants.{LitItem}
+use Rattle.cyp_spec.specs.declared.tree.ParamTree.{ParamTree}
+use Rattle.cyp_spec.specs.declared.tree.PartTree.{PartTree}
+use Rattle.cyp_spec.specs.declared.tree.PartTree.TheVariants.{Braces, PartName}
+use Rattle.cyp_spec.specs.declared.tree.PureTree.{PureTree}
+use Rattle.cyp_spec.specs.declared.tree.PureTree.TheVariants.{Items, NoItems}
+use Rattle.cyp_spec.specs.declared.tree.SetTree.{SetTree}
+use Rattle.cyp_spec.specs.declared.tree.SortTree.{SortTree}
+use Rattle.cyp_spec.specs.declared.tree.SortTree.TheVariants.{IntSort, SetSort}
 
 -- a name
 abbrev pub ident_of : List ℕ → Ident

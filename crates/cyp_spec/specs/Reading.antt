@@ -12,7 +12,7 @@ use Rattle.cyp_spec.specs.GrammarFaults.{GrammarFault}
 use Rattle.cyp_spec.specs.LimitFaults.{limit_faults}
 use Rattle.cyp_spec.specs.NameFaults.{name_faults}
 use Rattle.cyp_spec.specs.Specifications.{Specification, read_tree}
-use Rattle.cyp_spec.specs.Trees.{TextTree}
+use Rattle.cyp_spec.specs.declared.tree.TextTree.{TextTree}
 
 -- ---- the least fault
 

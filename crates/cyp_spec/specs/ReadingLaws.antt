@@ -1,6 +1,6 @@
 -- Laws of the reading of texts.
 use Rattle.std.specs.Prelude.{Err, IsTrue, List, Ok, Result, ℕ, ◌≡◌}
-use Rattle.cyp_goal.specs.Raw.{IsRaw, is_sorted}
+use Rattle.cyp_goal.specs.Raw.{IsRegular, is_sorted}
 use Rattle.cyp_heap.specs.Formed.{IsFormed}
 use Rattle.cyp_heap.specs.PredsFormed.{IsFormedPreds}
 use Rattle.cyp_lex.specs.declared.fault.Fault.{Fault}
@@ -10,7 +10,7 @@ use Rattle.cyp_grammar.specs.Spelling.{Match}
 use Rattle.cyp_spec.specs.Grammar.{text_spelling}
 use Rattle.cyp_spec.specs.Reading.{IsReading}
 use Rattle.cyp_spec.specs.Specifications.{Specification}
-use Rattle.cyp_spec.specs.Trees.{TextTree}
+use Rattle.cyp_spec.specs.declared.tree.TextTree.{TextTree}
 
 -- lexemes spell at most one tree
 abbrev pub OneTree : Type 0
@@ -37,8 +37,8 @@ abbrev pub ReadIsSorted : Type 0
 ReadIsSorted = (bytes : List ℕ) (s : Specification) → IsReading bytes (Ok s) → IsTrue (is_sorted (root_of s))
 
 -- a goal that is read is as the law of normal forms asks: besides, no part of a set term stands twice in a literal, and no existential in the pure precondition
-abbrev pub ReadIsRaw : Type 0
-ReadIsRaw = (bytes : List ℕ) (s : Specification) → IsReading bytes (Ok s) → IsRaw (root_of s)
+abbrev pub ReadIsRegular : Type 0
+ReadIsRegular = (bytes : List ℕ) (s : Specification) → IsReading bytes (Ok s) → IsRegular (root_of s)
 
 -- the predicates of a specification that is read are formed
 abbrev pub ReadPredsAreFormed : Type 0

@@ -12,7 +12,10 @@ use Rattle.cyp_term.specs.declared.term.Sort.TheVariants.{Card, Int, Set}
 use Rattle.cyp_spec.specs.Bodies.{kept_body, kept_lit}
 use Rattle.cyp_spec.specs.ReadTerms.{Scope, read_chunks, read_lit, read_lits, use_var}
 use Rattle.cyp_spec.specs.NameFaults.{clauses}
-use Rattle.cyp_spec.specs.Trees.{ClauseTree, ParamTree, PredTree, TextTree}
+use Rattle.cyp_spec.specs.declared.tree.ClauseTree.{ClauseTree}
+use Rattle.cyp_spec.specs.declared.tree.ParamTree.{ParamTree}
+use Rattle.cyp_spec.specs.declared.tree.PredTree.{PredTree}
+use Rattle.cyp_spec.specs.declared.tree.TextTree.{TextTree}
 use Rattle.cyp_spec.specs.Uses.{Use, param_sort, param_uses, same_name}
 
 -- predicates, a procedure's name as its bytes, and its goal

@@ -3,8 +3,21 @@ use Rattle.std.specs.Prelude.{[], Bool, List, None, Option, Some, cond, flat_map
 use Rattle.std.specs.Str.{bytes_eq}
 use Rattle.cyp_term.specs.declared.term.Sort.{Sort}
 use Rattle.cyp_term.specs.declared.term.Sort.TheVariants.{Int, Set}
-use Rattle.cyp_grammar.specs.Spelling.{Ident}
-use Rattle.cyp_spec.specs.Trees.{ArgTree, BlockOf, Braces, BracesArg, ChunkTree, Comparing, InstanceOf, IntSort, IntTree, Inside, LitTree, LocSort, MinusNum, NameMinus, NamePlus, Named, NamedCell, Negation, Num, NumPlus, ParamTree, PartName, PartTree, PredTree, SameSets, SetSort, SetTree, SortTree, SubSets, TermArg, TermCell, UnionArg}
+use Rattle.cyp_grammar.specs.declared.ident.Ident.{Ident}
+use Rattle.cyp_spec.specs.LitTrees.{Comparing, Inside, LitTree, Negation, SameSets, SubSets}
+use Rattle.cyp_spec.specs.declared.tree.ArgTree.{ArgTree}
+use Rattle.cyp_spec.specs.declared.tree.ArgTree.TheVariants.{BracesArg, TermArg, UnionArg}
+use Rattle.cyp_spec.specs.declared.tree.ChunkTree.{ChunkTree}
+use Rattle.cyp_spec.specs.declared.tree.ChunkTree.TheVariants.{BlockOf, InstanceOf, NamedCell, TermCell}
+use Rattle.cyp_spec.specs.declared.tree.IntTree.{IntTree}
+use Rattle.cyp_spec.specs.declared.tree.IntTree.TheVariants.{MinusNum, NameMinus, NamePlus, Named, Num, NumPlus}
+use Rattle.cyp_spec.specs.declared.tree.ParamTree.{ParamTree}
+use Rattle.cyp_spec.specs.declared.tree.PartTree.{PartTree}
+use Rattle.cyp_spec.specs.declared.tree.PartTree.TheVariants.{Braces, PartName}
+use Rattle.cyp_spec.specs.declared.tree.PredTree.{PredTree}
+use Rattle.cyp_spec.specs.declared.tree.SetTree.{SetTree}
+use Rattle.cyp_spec.specs.declared.tree.SortTree.{SortTree}
+use Rattle.cyp_spec.specs.declared.tree.SortTree.TheVariants.{IntSort, LocSort, SetSort}
 
 -- a name where it stands for a variable of this sort
 pub record Use : Type 0 where

@@ -1,4 +1,4 @@
-ghost use Rattle.cyp_spec.specs.ReadingLaws.{OneReading, OneTree, ReadIsFormed, ReadIsRaw, ReadIsSorted, ReadNotRefused, ReadPredsAreFormed, SomeReading};
+ghost use Rattle.cyp_spec.specs.ReadingLaws.{OneReading, OneTree, ReadIsFormed, ReadIsRegular, ReadIsSorted, ReadNotRefused, ReadPredsAreFormed, SomeReading};
 
 /// Law: lexemes spell one tree of a specification at most.
 pub fn lexemes_spell_one_tree()
@@ -27,7 +27,7 @@ pub fn goal_that_is_read_is_formed()
 /// asked for by the law that the normal form of a normal form is that normal form.
 pub fn goal_that_is_read_is_sorted()
     ensures sorted { ReadIsSorted }
-    ensures raw { ReadIsRaw }
+    ensures regular { ReadIsRegular }
 {}
 
 /// Law: the predicates of a specification that is read are formed.

@@ -1,8 +1,0 @@
-use Rattle.std.proofs.Common.{ℕ, ◌<◌, get_or}
-use Rattle.std.specs.Prelude.{IsTrue}
-use Rattle.cyp_term.specs.declared.lit.Lit.{Lit}
-use Rattle.cyp_term.specs.Integers.{is_int_lit}
-use Rattle.cyp_diff.proofs.tests.are_ints.Given as goal
-
-abbrev pub invariant-loop-k : goal.invariant-loop-k
-invariant-loop-k l = (m : ℕ) (d : Lit) → m < l.k → IsTrue (is_int_lit (get_or l.lits m d))
