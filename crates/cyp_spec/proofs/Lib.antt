@@ -37,6 +37,8 @@ pub mod OneFault
 pub mod Parser
 pub mod Parted
 pub mod PlainSorts
+pub mod PrintedLines
+pub mod PrintedTokens
 pub mod ReadTrees
 pub mod Scopes
 pub mod SetLaws
