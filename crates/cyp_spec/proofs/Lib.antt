@@ -37,7 +37,9 @@ pub mod OneFault
 pub mod Parser
 pub mod Parted
 pub mod PlainSorts
+pub mod PrintedBare
 pub mod PrintedLines
+pub mod PrintedPlaces
 pub mod PrintedTokens
 pub mod ReadTrees
 pub mod Scopes
