@@ -38,7 +38,9 @@ pub mod Parser
 pub mod Parted
 pub mod PlainSorts
 pub mod PrintedBare
+pub mod PrintedBareUses
 pub mod PrintedLines
+pub mod PrintedMaps
 pub mod PrintedPlaces
 pub mod PrintedTokens
 pub mod ReadTrees
