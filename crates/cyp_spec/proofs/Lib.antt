@@ -38,6 +38,8 @@ pub mod Parser
 pub mod Parted
 pub mod PlainSorts
 pub mod PrintedBare
+pub mod PrintedBareFaults
+pub mod PrintedBareRead
 pub mod PrintedBareUses
 pub mod PrintedLines
 pub mod PrintedMaps
