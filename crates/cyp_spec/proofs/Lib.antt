@@ -43,6 +43,7 @@ pub mod PrintedBareRead
 pub mod PrintedBareUses
 pub mod PrintedLines
 pub mod PrintedMaps
+pub mod PrintedNames
 pub mod PrintedPlaces
 pub mod PrintedTokens
 pub mod ReadTrees
