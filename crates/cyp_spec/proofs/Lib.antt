@@ -41,11 +41,13 @@ pub mod PrintedBare
 pub mod PrintedBareFaults
 pub mod PrintedBareRead
 pub mod PrintedBareUses
+pub mod PrintedFirsts
 pub mod PrintedLines
 pub mod PrintedMaps
 pub mod PrintedNames
 pub mod PrintedPlaces
 pub mod PrintedTokens
+pub mod PrintedUses
 pub mod ReadTrees
 pub mod Scopes
 pub mod SetLaws
