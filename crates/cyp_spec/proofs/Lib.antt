@@ -37,11 +37,14 @@ pub mod OneFault
 pub mod Parser
 pub mod Parted
 pub mod PlainSorts
+pub mod PrintedAgain
+pub mod PrintedBack
 pub mod PrintedBare
 pub mod PrintedBareFaults
 pub mod PrintedBareRead
 pub mod PrintedBareUses
 pub mod PrintedFirsts
+pub mod PrintedKept
 pub mod PrintedLines
 pub mod PrintedMaps
 pub mod PrintedNames
