@@ -43,6 +43,7 @@ pub mod PrintedBare
 pub mod PrintedBareFaults
 pub mod PrintedBareRead
 pub mod PrintedBareUses
+pub mod PrintedBodies
 pub mod PrintedChunks
 pub mod PrintedFirsts
 pub mod PrintedKept
