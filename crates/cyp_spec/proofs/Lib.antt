@@ -50,6 +50,7 @@ pub mod PrintedKept
 pub mod PrintedLines
 pub mod PrintedMaps
 pub mod PrintedNames
+pub mod PrintedParams
 pub mod PrintedPlaces
 pub mod PrintedTokens
 pub mod PrintedUses
