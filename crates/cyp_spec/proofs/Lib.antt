@@ -45,7 +45,10 @@ pub mod PrintedBareRead
 pub mod PrintedBareUses
 pub mod PrintedBodies
 pub mod PrintedChunks
+pub mod PrintedClauses
+pub mod PrintedFew
 pub mod PrintedFirsts
+pub mod PrintedGone
 pub mod PrintedKept
 pub mod PrintedLines
 pub mod PrintedMaps

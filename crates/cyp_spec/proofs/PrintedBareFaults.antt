@@ -57,7 +57,7 @@ seen_more : {A B : Type 0} (f : A → B) (seen : List A) (x : A) → map f seen 
 seen_more f [] x = refl
 seen_more f (y ∷ ys) x = ap (λ (zs : List _). f y ∷ zs) (seen_more f ys x)
 
-bare_repeats : (seen is : List Ident) → repeats (map bare_ident seen) (map bare_ident is) ≡ map bare_fault (repeats seen is)
+pub bare_repeats : (seen is : List Ident) → repeats (map bare_ident seen) (map bare_ident is) ≡ map bare_fault (repeats seen is)
 bare_repeats seen [] = refl
 bare_repeats seen (i ∷ is) =
     both_mapped bare_fault (cond (list_any (λ (j : Ident). bytes_eq j.text i.text) seen) (fault_at DuplicateName i.place) []) (repeats (seen ++ i ∷ []) is) _ _
