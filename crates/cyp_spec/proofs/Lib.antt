@@ -48,6 +48,7 @@ pub mod PrintedChunks
 pub mod PrintedClauses
 pub mod PrintedFew
 pub mod PrintedFirsts
+pub mod PrintedGoals
 pub mod PrintedGone
 pub mod PrintedKept
 pub mod PrintedLines
@@ -55,6 +56,7 @@ pub mod PrintedMaps
 pub mod PrintedNames
 pub mod PrintedParams
 pub mod PrintedPlaces
+pub mod PrintedPreds
 pub mod PrintedTokens
 pub mod PrintedUses
 pub mod ReadTrees
