@@ -53,6 +53,7 @@ pub mod PrintedGone
 pub mod PrintedKept
 pub mod PrintedLines
 pub mod PrintedMaps
+pub mod PrintedMarks
 pub mod PrintedNames
 pub mod PrintedParams
 pub mod PrintedPlaces
