@@ -37,7 +37,7 @@ abbrev pub arg_once : Arg → Bool
 arg_once (IntArg t) = true
 arg_once (SetArg u) = set_once u
 
-sum_is : (z : ℤ) → pos 0 +ℤ z ≡ z
+pub sum_is : (z : ℤ) → pos 0 +ℤ z ≡ z
 sum_is z = omega (arith, ints)
 
 module _ (sc : Scope) where

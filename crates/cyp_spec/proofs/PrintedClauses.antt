@@ -103,7 +103,7 @@ module _ (qs : List PredTree) (ps : List ParamTree) (c : ClauseTree) (once : rep
   abbrev again : ClauseTree
   again = again_clause qs ps c
 
-  chunks_right : (d : ChunkTree) → Among d c.body.chunks → chunk_faults qs d ≡ []
+  pub chunks_right : (d : ChunkTree) → Among d c.body.chunks → chunk_faults qs d ≡ []
   chunks_right =
       none_each (chunk_faults qs) c.body.chunks
       (none_both (guard_faults ps c.guard ++ sort_faults (param_uses ps) (lit_uses c.guard ++ body_uses qs c.body)) (flat_map (chunk_faults qs) c.body.chunks) none).1
@@ -115,16 +115,16 @@ module _ (qs : List PredTree) (ps : List ParamTree) (c : ClauseTree) (once : rep
   right : (u : Use) → Among u kept → sort_in sc u.name.text ≡ u.sort
   right u m = name_sort qs ps c once none u m
 
-  has : HasAll sc kept
+  pub has : HasAll sc kept
   has u m = (grow [] kept).new_there u m
 
-  in_params : (u : Use) → Among u (param_uses ps) → Among u kept
+  pub in_params : (u : Use) → Among u (param_uses ps) → Among u kept
   in_params u m = Among-left u (param_uses ps ++ kept_lit false c.guard) (kept_body qs c.body) (Among-left u (param_uses ps) (kept_lit false c.guard) m)
 
-  in_guard : (u : Use) → Among u (kept_lit false c.guard) → Among u kept
+  pub in_guard : (u : Use) → Among u (kept_lit false c.guard) → Among u kept
   in_guard u m = Among-left u (param_uses ps ++ kept_lit false c.guard) (kept_body qs c.body) (Among-right u (param_uses ps) (kept_lit false c.guard) m)
 
-  in_body : (u : Use) → Among u (kept_body qs c.body) → Among u kept
+  pub in_body : (u : Use) → Among u (kept_body qs c.body) → Among u kept
   in_body u m = Among-right u (param_uses ps ++ kept_lit false c.guard) (kept_body qs c.body) m
 
   few : (count_sort Int sc ≤ 64) × (count_sort Set sc ≤ 64)
@@ -133,7 +133,7 @@ module _ (qs : List PredTree) (ps : List ParamTree) (c : ClauseTree) (once : rep
   kept_plain : ArePlain kept
   kept_plain = plain_both (param_uses ps ++ kept_lit false c.guard) (kept_body qs c.body) (plain_both (param_uses ps) (kept_lit false c.guard) (params_plain ps) (plain_alone qs c.guard)) (body_plain qs c.body)
 
-  ok : Nameable sc
+  pub ok : Nameable sc
   ok = record {
     plain = λ u m. kept_plain u ((grow [] kept).only u (subst (λ (us : Scope). Among u us) (grow [] kept).parts m));
     few_ints = few.0;
@@ -145,8 +145,9 @@ module _ (qs : List PredTree) (ps : List ParamTree) (c : ClauseTree) (once : rep
 
   -- ---- the parameters
 
-  pub params_again : param_uses (again_params ps) ≡ map (printed_use sc) (param_uses ps)
-  params_again = ap (λ (vs : List Var). param_uses (map param_tree vs)) (sym vars_are) ∙ params_printed sc ps (λ u m. right u (in_params u m))
+  -- the variables of the parameters, by number
+  pub param_vars_are : map (use_var sc) (param_uses ps) ≡ params_from [] (map param_sort ps)
+  param_vars_are = ap (λ (us : Scope). map (use_var us) (param_uses ps)) begins ∙ param_vars ps (grow (param_uses ps) others).more pars_distinct
     where
       others : List Use
       others = kept_lit false c.guard ++ kept_body qs c.body
@@ -154,8 +155,8 @@ module _ (qs : List PredTree) (ps : List ParamTree) (c : ClauseTree) (once : rep
       begins : sc ≡ param_uses ps ++ (grow (param_uses ps) others).more
       begins = ap (λ (us : List Use). with_all_new same_name [] us) (append_assoc (param_uses ps) (kept_lit false c.guard) (kept_body qs c.body)) ∙ begins_with (param_uses ps) others pars_distinct
 
-      vars_are : map (use_var sc) (param_uses ps) ≡ params_from [] (map param_sort ps)
-      vars_are = ap (λ (us : Scope). map (use_var us) (param_uses ps)) begins ∙ param_vars ps (grow (param_uses ps) others).more pars_distinct
+  pub params_again : param_uses (again_params ps) ≡ map (printed_use sc) (param_uses ps)
+  params_again = ap (λ (vs : List Var). param_uses (map param_tree vs)) (sym param_vars_are) ∙ params_printed sc ps (λ u m. right u (in_params u m))
 
   pub no_param_twice : repeats [] (param_names (again_params ps)) ≡ []
   no_param_twice = no_params_twice (again_params ps) (subst (λ (us : List Use). Distinct us) (sym params_again) (distinct_printed sc ok (param_uses ps) (λ u m. has u (in_params u m)) pars_distinct))

@@ -51,31 +51,31 @@ module _ (t : TextTree) (right : name_faults t ≡ []) (small : is_goal_within (
   abbrev again : TextTree
   again = again_text t
 
-  chunk_right : (c : ChunkTree) → Among c (t.pre.chunks ++ t.post.chunks) → chunk_faults t.preds c ≡ []
+  pub chunk_right : (c : ChunkTree) → Among c (t.pre.chunks ++ t.post.chunks) → chunk_faults t.preds c ≡ []
   chunk_right =
       none_each (chunk_faults t.preds) (t.pre.chunks ++ t.post.chunks)
       (none_both (repeats [] (param_names t.params) ++ flat_map set_param_fault t.params ++ sort_faults pars (body_uses t.preds t.pre ++ body_uses t.preds t.post)) (flat_map (chunk_faults t.preds) (t.pre.chunks ++ t.post.chunks))
       (none_both (repeats [] (map (λ (q : PredTree). q.name) t.preds) ++ flat_map (pred_faults t.preds) t.preds) (proc_faults t) right).1).1
 
-  pre_right : (c : ChunkTree) → Among c t.pre.chunks → chunk_faults t.preds c ≡ []
+  pub pre_right : (c : ChunkTree) → Among c t.pre.chunks → chunk_faults t.preds c ≡ []
   pre_right c m = chunk_right c (Among-left c t.pre.chunks t.post.chunks m)
 
-  post_right : (c : ChunkTree) → Among c t.post.chunks → chunk_faults t.preds c ≡ []
+  pub post_right : (c : ChunkTree) → Among c t.post.chunks → chunk_faults t.preds c ≡ []
   post_right c m = chunk_right c (Among-right c t.pre.chunks t.post.chunks m)
 
   sorted : (u : Use) → Among u kept → sort_in sc u.name.text ≡ u.sort
   sorted u m = name_sort t right u m
 
-  in_pars : (u : Use) → Among u pars → Among u kept
+  pub in_pars : (u : Use) → Among u pars → Among u kept
   in_pars u m = Among-left u (pars ++ kept_body t.preds t.pre) (kept_body t.preds t.post) (Among-left u pars (kept_body t.preds t.pre) m)
 
-  in_pre : (u : Use) → Among u (kept_body t.preds t.pre) → Among u kept
+  pub in_pre : (u : Use) → Among u (kept_body t.preds t.pre) → Among u kept
   in_pre u m = Among-left u (pars ++ kept_body t.preds t.pre) (kept_body t.preds t.post) (Among-right u pars (kept_body t.preds t.pre) m)
 
-  in_post : (u : Use) → Among u (kept_body t.preds t.post) → Among u kept
+  pub in_post : (u : Use) → Among u (kept_body t.preds t.post) → Among u kept
   in_post u m = Among-right u (pars ++ kept_body t.preds t.pre) (kept_body t.preds t.post) m
 
-  has : HasAll sc kept
+  pub has : HasAll sc kept
   has u m = elim (Among-cases u (pars ++ kept_body t.preds t.pre) (kept_body t.preds t.post) m) [
     | inl a ↦ has_goal t u.name.text (has_first t u a)
     | inr b ↦ (goal_grows t).new_there u b
@@ -84,7 +84,7 @@ module _ (t : TextTree) (right : name_faults t ≡ []) (small : is_goal_within (
   has_universal : HasAll sc (universal_scope t)
   has_universal u m = has_goal t u.name.text (u, m, refl)
 
-  ok : Nameable sc
+  pub ok : Nameable sc
   ok = record { plain = goal_plain t; few_ints = (few_names t chunk_right sorted small).0; few_sets = (few_names t chunk_right sorted small).1 }
 
   pars_distinct : Distinct pars
@@ -95,7 +95,7 @@ module _ (t : TextTree) (right : name_faults t ≡ []) (small : is_goal_within (
   params_again : param_uses again.params ≡ map (printed_use sc) pars
   params_again = params_printed sc t.params (λ u m. sorted u (in_pars u m))
 
-  pre_is : again.pre ≡ again_body t.preds sc t.pre
+  pub pre_is : again.pre ≡ again_body t.preds sc t.pre
   pre_is = λ i. record { pure = pure_tree (read_lits sc t.pre); chunks = cards_unprinted (read_preds t.preds) 0 (read_chunks t.preds sc t.pre) i }
 
   pre_firsts : Firsts (kept_body (again_preds t.preds) again.pre) (map (printed_use sc) (kept_body t.preds t.pre))
