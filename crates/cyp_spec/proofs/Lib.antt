@@ -58,6 +58,7 @@ pub mod PrintedNames
 pub mod PrintedParams
 pub mod PrintedPlaces
 pub mod PrintedPreds
+pub mod PrintedProper
 pub mod PrintedSmall
 pub mod PrintedTokens
 pub mod PrintedUses
