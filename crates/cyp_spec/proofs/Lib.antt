@@ -60,6 +60,7 @@ pub mod PrintedPlaces
 pub mod PrintedPreds
 pub mod PrintedProper
 pub mod PrintedSmall
+pub mod PrintedTexts
 pub mod PrintedTokens
 pub mod PrintedUses
 pub mod ReadTrees

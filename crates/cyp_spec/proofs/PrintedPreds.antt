@@ -43,7 +43,7 @@ mapped_among : {A B : Type 0} (f g : A → B) (xs : List A) → ((x : A) → Amo
 mapped_among f g [] h = refl
 mapped_among f g (x ∷ xs) h = λ i. h x (inl refl) i ∷ mapped_among f g xs (λ y m. h y (inr m)) i
 
-map_map : {A B C : Type 0} (f : A → B) (g : B → C) (xs : List A) → map g (map f xs) ≡ map (λ x. g (f x)) xs
+pub map_map : {A B C : Type 0} (f : A → B) (g : B → C) (xs : List A) → map g (map f xs) ≡ map (λ x. g (f x)) xs
 map_map f g [] = refl
 map_map f g (x ∷ xs) = ap (λ (ys : List _). g (f x) ∷ ys) (map_map f g xs)
 
@@ -53,10 +53,10 @@ module _ (qs : List PredTree) (q : PredTree) (right : pred_faults qs q ≡ []) (
   abbrev again : PredTree
   again = again_pred qs q
 
-  once : repeats [] (param_names q.params) ≡ []
+  pub once : repeats [] (param_names q.params) ≡ []
   once = (none_both (repeats [] (param_names q.params)) (flat_map (clause_faults qs q.params) (clauses q)) right).0
 
-  clause_right : (c : ClauseTree) → Among c (clauses q) → clause_faults qs q.params c ≡ []
+  pub clause_right : (c : ClauseTree) → Among c (clauses q) → clause_faults qs q.params c ≡ []
   clause_right = none_each (clause_faults qs q.params) (clauses q) (none_both (repeats [] (param_names q.params)) (flat_map (clause_faults qs q.params) (clauses q)) right).1
 
   abbrev overlap_part : List Fault
@@ -81,7 +81,7 @@ module _ (qs : List PredTree) (q : PredTree) (right : pred_faults qs q ≡ []) (
   pred_within : is_pred_within (read_pred qs q) ≡ true
   pred_within = test_true (is_pred_within (read_pred qs q)) _ [] four.3
 
-  clause_within : (c : ClauseTree) → Among c (clauses q) → is_clause_within (read_clause qs q.params c) ≡ true
+  pub clause_within : (c : ClauseTree) → Among c (clauses q) → is_clause_within (read_clause qs q.params c) ≡ true
   clause_within c m =
       each_at is_clause_within (read_clause qs q.params c) (read_pred qs q).clauses
       (and_parts (nat_le (length (read_pred qs q).params) 8 && nat_le (length (read_pred qs q).clauses) 8) (list_all is_clause_within (read_pred qs q).clauses) pred_within).1
