@@ -59,6 +59,7 @@ pub mod PrintedParams
 pub mod PrintedPlaces
 pub mod PrintedPreds
 pub mod PrintedProper
+pub mod PrintedRead
 pub mod PrintedSmall
 pub mod PrintedTexts
 pub mod PrintedTokens

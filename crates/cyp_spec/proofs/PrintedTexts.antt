@@ -205,7 +205,7 @@ module _ (t : TextTree) (right : name_faults t ≡ []) (limits : limit_faults t 
 
   -- ---- its marks
 
-  abbrev proc_spelling : TextTree → List Mark
+  abbrev pub proc_spelling : TextTree → List Mark
   proc_spelling u = word Void ∷ ident u.name ∷ (params_spelling u.params ++ (in_braces u.pre ++ in_braces u.post))
 
   program_short : AreShort (read_goal t).program
@@ -213,7 +213,7 @@ module _ (t : TextTree) (right : name_faults t ≡ []) (limits : limit_faults t 
       let f = map_from (use_var (goal_scope t)) v (param_uses t.params) m in
       come_short (goal_scope t) (of_goal.ok t right small) (param_uses t.params) (λ u n. of_goal.has t right small u (of_goal.in_pars t right small u n)) v (f.0, f.1, f.2)
 
-  printed_proc : Marks (text_spelling t) → Marks (proc_spelling printed)
+  pub printed_proc : Marks (text_spelling t) → Marks (proc_spelling printed)
   printed_proc h =
       marks_cons (word Void) (ident printed.name ∷ (params_spelling printed.params ++ (in_braces printed.pre ++ in_braces printed.post))) (proper_word Void)
       (marks_cons (ident printed.name) (params_spelling printed.params ++ (in_braces printed.pre ++ in_braces printed.post)) (marks_first (ident t.name) (params_spelling t.params ++ (in_braces t.pre ++ in_braces t.post)) named)
@@ -239,6 +239,3 @@ module _ (t : TextTree) (right : name_faults t ≡ []) (limits : limit_faults t 
 
   pub preds_marks_again : Marks (text_spelling t) → (q : PredTree) → Among q qs → Marks (pred_spelling (again_pred qs q))
   preds_marks_again h q m = pred_marks qs q (pred_right q m) (pred_limits q m) (each_all pred_spelling qs (marks_left (all_spelling pred_spelling qs) (proc_spelling t) h) q m)
-
-  pub proc_marks_again : Marks (text_spelling t) → Marks (word Void ∷ ident printed.name ∷ (params_spelling printed.params ++ (in_braces printed.pre ++ in_braces printed.post)))
-  proc_marks_again h = printed_proc h
