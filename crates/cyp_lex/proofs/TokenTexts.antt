@@ -1,14 +1,13 @@
 -- The text of a token is read as that token, where it ends before what follows it.
-use Rattle.std.proofs.Common.{List, [], ap, arith, cond, drop, false, get_or, length, length-append, refl, subst, sym, take, true, ℕ, suc, ◌*◌, ◌+◌, ◌-◌, ◌++◌, ◌<◌, ◌≤◌, ◌∙◌, ◌∷◌, ◌≡◌, Err, Ok, Result, Some, None}
-use Rattle.std.specs.Prelude.{Bool, codes, decimal, nat_le, ◌&&◌, ◌/◌, ◌%◌, ◌^◌}
+use Rattle.std.proofs.Common.{List, [], ap, arith, drop, false, get_or, length, length-append, refl, sym, take, true, ℕ, suc, ◌*◌, ◌+◌, ◌-◌, ◌++◌, ◌<◌, ◌≤◌, ◌∙◌, ◌∷◌, ◌≡◌, Ok, Result}
+use Rattle.std.specs.Prelude.{Bool, codes, decimal, ◌/◌, ◌%◌, ◌^◌}
 use Rattle.std.specs.List.{list_all, prefix_len}
 use Rattle.std.proofs.lemmas.Bool.{and_from, and_parts, le-leb}
 use Rattle.std.proofs.lemmas.Bool.Decides.{nat_tests}
 use Rattle.std.proofs.lemmas.Fmt.{decimal_by_steps}
-use Rattle.cyp_lex.specs.Lexing.{begins_with, decimal_value, is_blank, is_digit, is_name_byte, is_name_start, lexed, name_kind, number_piece, number_result, piece_at, run_of, sign_at, specification_lexicon, stands, with_token, words}
+use Rattle.cyp_lex.specs.Lexing.{begins_with, decimal_value, is_blank, is_digit, is_name_byte, is_name_start, lexed, name_kind, piece_at, run_of, sign_at, specification_lexicon, stands, with_token, words}
 use Rattle.cyp_lex.specs.Spelled.{sign_text, word_text}
 use Rattle.cyp_lex.specs.declared.fault.Fault.{Fault}
-use Rattle.cyp_lex.specs.declared.lexer.Piece.{Piece}
 use Rattle.cyp_lex.specs.declared.lexer.Piece.TheVariants.{Begun}
 use Rattle.cyp_lex.specs.declared.token.Sign.{Sign}
 use Rattle.cyp_lex.specs.declared.token.Sign.TheVariants.{Assign, LeftBracket, LeftParen, Star}
@@ -138,8 +137,16 @@ number_from : (n b : ℕ) (bs rest : List ℕ) → n ≤ 2147483648 → IsDecima
 unfolding piece_at
 number_from n b bs rest small d e =
     let digits = and_parts (is_digit b) (list_all is_digit bs) d.0 in
-    rw (digit_no_blank b digits.0, digit_no_slash b (bs ++ rest) digits.0, digit_no_start b digits.0, digits.0,
-    run_is is_digit b bs rest digits.1 (digits_end rest e), d.1, le-leb n 2147483648 small, run_ends is_digit bs rest digits.1 (digits_end rest e)) refl
+    rw (
+      digit_no_blank b digits.0,
+      digit_no_slash b (bs ++ rest) digits.0,
+      digit_no_start b digits.0,
+      digits.0,
+      run_is is_digit b bs rest digits.1 (digits_end rest e),
+      d.1,
+      le-leb n 2147483648 small,
+      run_ends is_digit bs rest digits.1 (digits_end rest e),
+    ) refl
 
 number_found : (n : ℕ) (ds rest : List ℕ) → n ≤ 2147483648 → IsDecimal n ds → Ends rest → Found (kinds.Number n) ds rest
 number_found n [] rest small d e = absurd (omega (arith, d.2))

@@ -1,12 +1,12 @@
 -- What the tokens of a specification say: names that aren't reserved, numbers in range, symbols of specifications.
 use Rattle.std.proofs.Common.{List, [], ap, append_assoc, arith, cond, drop, false, inl, inr, length, length-append, refl, subst, sym, take, true, ℕ, suc, zero, ◌+◌, ◌-◌, ◌++◌, ◌≤◌, ◌∙◌, ◌∷◌, ◌≡◌, Err, None, Ok, Option, Result, Some}
-use Rattle.std.specs.Prelude.{Bool, codes, nat_le, slice_range, ◌&&◌}
+use Rattle.std.specs.Prelude.{Bool, codes, nat_le, slice_range}
 use Rattle.std.specs.List.{list_all, prefix_len}
 use Rattle.std.specs.Str.{bytes_eq}
 use Rattle.std.proofs.lemmas.Bool.{and_from, and_parts, leb-true}
 use Rattle.cyp_term.proofs.Lists.{Among}
 use Rattle.cyp_lex.specs.Lexing.{begins_with, decimal_value, is_blank, is_digit, is_name_byte, is_name_start, is_no_line_end, lexed, name_kind, number_piece, number_result, piece_at, run_of, sign_at, sign_piece, signs, specification_lexicon, stands, tokens_of, with_token, words}
-use Rattle.cyp_lex.specs.Spelled.{sign_text, word_text}
+use Rattle.cyp_lex.specs.Spelled.{word_text}
 use Rattle.cyp_lex.specs.declared.fault.Fault.{Fault}
 use Rattle.cyp_lex.specs.declared.lexer.Piece.{Piece}
 use Rattle.cyp_lex.specs.declared.lexer.Piece.TheVariants.{Bad, Begun, Blank}

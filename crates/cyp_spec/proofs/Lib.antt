@@ -56,6 +56,8 @@ pub mod PrintedMaps
 pub mod PrintedMarks
 pub mod PrintedNames
 pub mod PrintedParams
+pub mod PrintedPlacedTerms
+pub mod PrintedPlacedTexts
 pub mod PrintedPlaces
 pub mod PrintedPreds
 pub mod PrintedProper

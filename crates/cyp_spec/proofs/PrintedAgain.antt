@@ -1,24 +1,21 @@
 -- The tree by which the specification of a tree is printed, and its predicates.
-use Rattle.std.proofs.Common.{List, None, Option, Some, [], ap, cond, false, inl, inr, length, map, refl, subst, sym, true, ◌++◌, ◌∙◌, ◌∷◌, ◌≡◌, ◌≢◌, ℕ, suc, arith}
+use Rattle.std.proofs.Common.{List, None, Option, Some, [], ap, cond, false, inl, inr, length, map, refl, subst, sym, true, ◌++◌, ◌∙◌, ◌∷◌, ◌≡◌, ◌≢◌, ℕ, suc}
 use Rattle.std.specs.Prelude.{Bool, slice_get, ◌==◌}
 use Rattle.std.specs.Str.{bytes_eq}
 use Rattle.std.proofs.lemmas.Bool.{eqb-true, eq-eqb}
 use Rattle.std.proofs.lemmas.Slice.Eq.{bytes_eq-Decides}
 use Rattle.cyp_grammar.specs.Spelling.{Ident}
-use Rattle.cyp_heap.specs.Formed.{arg_sort, fits_pred, sorts_fit}
-use Rattle.cyp_heap.specs.declared.chunk.Arg.{Arg}
+use Rattle.cyp_heap.specs.Formed.{fits_pred, sorts_fit}
 use Rattle.cyp_heap.specs.declared.goal.Goal.{Goal}
 use Rattle.cyp_heap.specs.declared.pred.Pred.{Pred}
-use Rattle.cyp_heap.specs.declared.pred.Preds.{Preds}
 use Rattle.cyp_lex.specs.declared.fault.FaultKind.TheVariants.{WrongArity}
 use Rattle.cyp_term.specs.declared.term.Sort.{Sort}
 use Rattle.cyp_term.specs.declared.term.Sort.TheVariants.{Card, Int, Set}
-use Rattle.cyp_term.specs.declared.term.Var.{Var}
 use Rattle.cyp_term.proofs.Lists.{Among, map_from}
 use Rattle.cyp_spec.specs.NameFaults.{arg_faults, fault_at, instance_fault}
 use Rattle.cyp_spec.specs.PrintedTrees.{body_tree, clause_tree, ident_of, param_tree, params_from, pred_name, sort_tree}
 use Rattle.cyp_spec.specs.ReadTerms.{Scope, read_args}
-use Rattle.cyp_spec.specs.Specifications.{Specification, read_clause, read_goal, read_pred, read_preds}
+use Rattle.cyp_spec.specs.Specifications.{read_clause, read_goal, read_pred, read_preds}
 use Rattle.cyp_spec.specs.Trees.{ArgTree, ClauseTree, ParamTree, PredTree, TextTree}
 use Rattle.cyp_spec.specs.Uses.{arg_sorts, param_sort, pred_named, pred_place, sort_of, sorts_of}
 use Rattle.cyp_spec.proofs.FormedInstances.{fits_named}

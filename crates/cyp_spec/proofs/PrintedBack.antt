@@ -1,6 +1,6 @@
 -- Printed terms, literals and arguments are read as what they were, where their variables' names are read back.
-use Rattle.std.proofs.Common.{List, None, Option, Some, [], ap, append-nil, arith, false, flat_map, inl, inr, map, refl, sym, true, ℤ, ◌++◌, ◌∙◌, ◌∷◌, ◌≡◌, ◌&&◌, ℕ, suc, zero, zero-add}
-use Rattle.std.specs.Prelude.{Bool, neg_ℤ, negsuc, pos, ◌+ℤ◌}
+use Rattle.std.proofs.Common.{List, None, Option, Some, [], ap, append-nil, arith, flat_map, inl, inr, map, refl, sym, true, ℤ, ◌++◌, ◌∙◌, ◌∷◌, ◌≡◌, ◌&&◌, suc, zero}
+use Rattle.std.specs.Prelude.{Bool, negsuc, pos, ◌+ℤ◌}
 use Rattle.std.proofs.lemmas.Bool.{and_parts}
 use Rattle.std.proofs.lemmas.Int.{ints}
 use Rattle.cyp_goal.proofs.AllNew.{without_repeats-all_new}
@@ -9,16 +9,16 @@ use Rattle.cyp_heap.specs.Chunks.{arg_vars}
 use Rattle.cyp_heap.specs.Formed.{arg_sort, sorts_fit}
 use Rattle.cyp_heap.specs.declared.chunk.Arg.{Arg}
 use Rattle.cyp_heap.specs.declared.chunk.Arg.TheVariants.{Int as IntArg, Set as SetArg}
-use Rattle.cyp_term.specs.Terms.{lit_vars, plus, set_vars, sort_eq, term_eq, term_vars, var_eq, var_term, without_repeats}
+use Rattle.cyp_term.specs.Terms.{lit_vars, set_vars, sort_eq, term_eq, term_vars, var_eq, var_term, without_repeats}
 use Rattle.cyp_term.specs.declared.lit.Lit.{Lit}
 use Rattle.cyp_term.specs.declared.lit.Lit.TheVariants.{Eq, Le, Lt, Member, Ne, NotMember, NotSame, NotSub, Same, Sub}
 use Rattle.cyp_term.specs.declared.lit.SetTerm.{SetTerm}
 use Rattle.cyp_term.specs.declared.term.Sort.{Sort}
-use Rattle.cyp_term.specs.declared.term.Sort.TheVariants.{Int, Set}
+use Rattle.cyp_term.specs.declared.term.Sort.TheVariants.{Set}
 use Rattle.cyp_term.specs.declared.term.Term.{Term}
 use Rattle.cyp_term.specs.declared.term.Var.{Var}
 use Rattle.cyp_term.proofs.Equality.{Decides-sort_eq}
-use Rattle.cyp_term.proofs.Lists.{Among, Among-left, Among-right, flat_in}
+use Rattle.cyp_term.proofs.Lists.{Among, Among-left, Among-right}
 use Rattle.cyp_spec.specs.PrintedTrees.{arg_tree, braces_of, lit_tree, parts_of, set_tree, term_tree, term_tree_by, union_arg, var_ident}
 use Rattle.cyp_spec.specs.ReadTerms.{Scope, part_elems, part_vars, read_arg, read_args, read_int, read_lit, read_set, read_union, var_named}
 use Rattle.cyp_spec.specs.Trees.{PartName, PartTree}

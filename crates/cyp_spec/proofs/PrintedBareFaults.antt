@@ -1,27 +1,26 @@
 -- A tree has the faults of the tree without places, at their places.
-use Rattle.std.proofs.Common.{List, None, Option, Some, [], ap, cond, false, filter, flat_map, length, map, not, refl, sym, true, ◌++◌, ◌∙◌, ◌∷◌, ◌≡◌, ◌&&◌, ℕ, suc, zero}
+use Rattle.std.proofs.Common.{List, None, Option, Some, [], ap, cond, false, flat_map, length, map, not, refl, sym, true, ◌++◌, ◌∙◌, ◌∷◌, ◌≡◌, ◌&&◌, ℕ, suc, zero}
 use Rattle.std.specs.Prelude.{Bool, nat_le, slice_get, ◌==◌}
 use Rattle.std.specs.List.{list_any}
 use Rattle.std.specs.Str.{bytes_eq}
 use Rattle.cyp_grammar.specs.Spelling.{Ident}
-use Rattle.cyp_heap.specs.declared.pred.Pred.{Pred}
 use Rattle.cyp_lex.specs.declared.fault.Fault.{Fault}
 use Rattle.cyp_lex.specs.declared.fault.FaultKind.{FaultKind}
-use Rattle.cyp_lex.specs.declared.fault.FaultKind.TheVariants.{DuplicateName, GuardsOverlap, TooLarge, UnboundVariable, UnknownPredicate, Unproductive, WrongArity, WrongSort}
+use Rattle.cyp_lex.specs.declared.fault.FaultKind.TheVariants.{DuplicateName, GuardsOverlap, TooLarge, UnboundVariable, Unproductive, WrongArity, WrongSort}
 use Rattle.cyp_term.specs.Terms.{sort_eq}
 use Rattle.cyp_term.specs.declared.lit.Lit.{Lit}
 use Rattle.cyp_term.specs.declared.term.Sort.{Sort}
-use Rattle.cyp_term.specs.declared.term.Sort.TheVariants.{Card, Int, Set}
+use Rattle.cyp_term.specs.declared.term.Sort.TheVariants.{Int, Set}
 use Rattle.cyp_spec.specs.Bodies.{body_uses, is_cell, is_instance}
 use Rattle.cyp_spec.specs.LimitFaults.{extra_pred_fault, guard_of, is_pred_within, is_root_within, limit_faults, overlap_faults, overlaps, pred_limit_faults, size_fault, size_faults, unproductive_fault}
 use Rattle.cyp_spec.specs.NameFaults.{arg_fault, arg_faults, chunk_faults, clause_faults, clauses, fault_at, guard_faults, instance_fault, int_place, is_set_literal, known_sort, lit_place, name_faults, param_names, pred_faults, proc_faults, repeats, set_param_fault, sort_fault, sort_faults, unbound_fault}
-use Rattle.cyp_spec.specs.Specifications.{read_clause, read_pred, read_tree, Specification}
-use Rattle.cyp_spec.specs.Trees.{ArgTree, BlockOf, BodyTree, Braces, BracesArg, ChunkTree, ClauseTree, Comparing, Inside, InstanceOf, IntTree, LitTree, MinusNum, NameMinus, NamePlus, Named, NamedCell, Negation, Num, NumPlus, ParamTree, PartName, PartTree, PredTree, SameSets, SetTree, SubSets, TermArg, TermCell, TextTree, UnionArg}
+use Rattle.cyp_spec.specs.Specifications.{read_pred, read_tree}
+use Rattle.cyp_spec.specs.Trees.{ArgTree, BlockOf, BodyTree, Braces, BracesArg, ChunkTree, ClauseTree, Comparing, Inside, InstanceOf, IntTree, LitTree, Named, NamedCell, Negation, Num, ParamTree, PartName, PartTree, PredTree, SameSets, SubSets, TermArg, TermCell, TextTree, UnionArg}
 use Rattle.cyp_spec.specs.Uses.{Use, lit_uses, param_sort, param_uses, pred_named}
 use Rattle.cyp_spec.proofs.PrintedBare.{bare_arg, bare_body, bare_chunk, bare_clause, bare_fault, bare_ident, bare_int, bare_lit, bare_param, bare_part, bare_pred, bare_set, bare_text, bare_use}
 use Rattle.cyp_spec.proofs.PrintedBareRead.{bare_read_clause, bare_read_pred, bare_read_tree}
 use Rattle.cyp_spec.proofs.PrintedBareUses.{bare_body_uses, bare_found, bare_is_cell, bare_is_instance, bare_lit_uses, bare_param_sorts, bare_param_uses, bare_pred_named}
-use Rattle.cyp_spec.proofs.PrintedMaps.{any_mapped, both_mapped, flat_mapped, length_mapped, map_then}
+use Rattle.cyp_spec.proofs.PrintedMaps.{any_mapped, both_mapped, flat_mapped, length_mapped}
 
 -- a fault or none
 fault_or_none : (t : Bool) (k : FaultKind) (p q : ℕ) → cond t (record { kind = k; place = 0 } ∷ []) [] ≡ map bare_fault (cond t (fault_at k p) [])

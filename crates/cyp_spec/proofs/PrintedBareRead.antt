@@ -1,32 +1,27 @@
 -- What a tree says doesn't depend on its places.
-use Rattle.std.proofs.Common.{List, None, Option, Some, [], ap, cond, drop, false, filter, flat_map, length, map, refl, sym, true, ◌+◌, ◌++◌, ◌∙◌, ◌∷◌, ◌≡◌, ℕ, suc, zero}
-use Rattle.std.specs.Prelude.{Bool, neg_ℤ, pos}
+use Rattle.std.proofs.Common.{List, None, [], ap, cond, drop, false, filter, length, map, refl, ◌+◌, ◌++◌, ◌∙◌, ◌∷◌, ◌≡◌, ℕ}
+use Rattle.std.specs.Prelude.{neg_ℤ, pos}
 use Rattle.std.specs.Str.{bytes_eq}
-use Rattle.cyp_grammar.specs.Spelling.{Ident}
-use Rattle.cyp_heap.specs.declared.chunk.Arg.{Arg}
 use Rattle.cyp_heap.specs.declared.chunk.Arg.TheVariants.{Int as IntArg, Set as SetArg}
-use Rattle.cyp_heap.specs.declared.chunk.Chunk.{Chunk}
 use Rattle.cyp_heap.specs.declared.chunk.Chunk.TheVariants.{Block, Cell, Inst}
 use Rattle.cyp_heap.specs.declared.goal.Goal.{Goal}
 use Rattle.cyp_heap.specs.declared.pred.Clause.{Clause}
-use Rattle.cyp_heap.specs.declared.pred.Pred.{Pred}
 use Rattle.cyp_term.specs.Terms.{negated, plus, set_var, sort_eq, term_eq, var_eq, var_term, with_all_new, without_repeats}
-use Rattle.cyp_term.specs.declared.lit.Lit.{Lit}
 use Rattle.cyp_term.specs.declared.lit.Lit.TheVariants.{Member, Same, Sub}
 use Rattle.cyp_term.specs.declared.lit.SetTerm.{SetTerm}
 use Rattle.cyp_term.specs.declared.term.Sort.{Sort}
-use Rattle.cyp_term.specs.declared.term.Sort.TheVariants.{Card, Int, Set}
+use Rattle.cyp_term.specs.declared.term.Sort.TheVariants.{Int, Set}
 use Rattle.cyp_term.specs.declared.term.Term.{Term}
 use Rattle.cyp_term.specs.declared.term.Var.{Var}
 use Rattle.cyp_spec.specs.Bodies.{body_lits, in_kinds, kept_body, kept_lit}
 use Rattle.cyp_spec.specs.NameFaults.{clauses}
 use Rattle.cyp_spec.specs.ReadTerms.{Scope, compared, part_elems, part_vars, rank_of, read_arg, read_args, read_chunk, read_chunks, read_int, read_lit, read_lits, read_set, read_union, sort_in, use_var, var_named}
-use Rattle.cyp_spec.specs.Specifications.{Specification, clause_scope, count_sort, goal_scope, read_clause, read_goal, read_pred, read_preds, read_tree, universal_scope, with_cards}
+use Rattle.cyp_spec.specs.Specifications.{clause_scope, count_sort, goal_scope, read_clause, read_goal, read_pred, read_preds, read_tree, universal_scope, with_cards}
 use Rattle.cyp_spec.specs.Trees.{ArgTree, BlockOf, BodyTree, Braces, BracesArg, ChunkTree, ClauseTree, Comparing, Inside, InstanceOf, IntTree, LitTree, MinusNum, NameMinus, NamePlus, Named, NamedCell, Negation, Num, NumPlus, ParamTree, PartName, PartTree, PredTree, SameSets, SetTree, SubSets, TermArg, TermCell, TextTree, UnionArg}
-use Rattle.cyp_spec.specs.Uses.{Use, arg_sorts, param_sort, param_uses, pred_place, same_name, set_parts}
+use Rattle.cyp_spec.specs.Uses.{Use, arg_sorts, param_uses, same_name, set_parts}
 use Rattle.cyp_spec.proofs.PrintedBare.{bare_arg, bare_body, bare_chunk, bare_clause, bare_ident, bare_int, bare_lit, bare_param, bare_part, bare_pred, bare_set, bare_text, bare_use}
 use Rattle.cyp_spec.proofs.PrintedBareUses.{bare_arg_sorts, bare_body_lits, bare_in_kinds, bare_kept_body, bare_kept_lit, bare_param_sorts, bare_param_uses, bare_pred_place}
-use Rattle.cyp_spec.proofs.PrintedMaps.{all_new_kept, both_mapped, filter_mapped, flat_then, length_mapped, map_then}
+use Rattle.cyp_spec.proofs.PrintedMaps.{all_new_kept, both_mapped, drop_mapped, filter_mapped, flat_then, length_mapped, map_then}
 
 -- ---- scopes
 
@@ -164,15 +159,6 @@ bare_universal t =
 pub bare_goal_scope : (t : TextTree) → goal_scope (bare_text t) ≡ map bare_use (goal_scope t)
 bare_goal_scope t =
     (λ i. with_all_new same_name (bare_universal t i) (bare_kept_body t.preds t.post i)) ∙ bare_all_new (universal_scope t) (kept_body t.preds t.post)
-
-drop_mapped : {A B : Type 0} (f : A → B) (n : ℕ) (xs : List A) → drop n (map f xs) ≡ map f (drop n xs)
-drop_mapped f n [] = drop_none n
-  where
-    drop_none : (n : ℕ) → drop n [] ≡ map f (drop n [])
-    drop_none zero = refl
-    drop_none (suc n) = refl
-drop_mapped f zero (x ∷ xs) = refl
-drop_mapped f (suc n) (x ∷ xs) = drop_mapped f n xs
 
 bare_read_goal : (t : TextTree) → read_goal (bare_text t) ≡ read_goal t
 bare_read_goal t = by_scope (goal_scope (bare_text t)) (universal_scope (bare_text t)) (bare_goal_scope t) (bare_universal t)

@@ -1,15 +1,14 @@
 -- The names of a tree without places.
-use Rattle.std.proofs.Common.{List, None, Option, Some, [], ap, cond, false, filter, flat_map, length, map, not, refl, sym, true, ◌++◌, ◌∙◌, ◌∷◌, ◌≡◌, ℕ, suc}
+use Rattle.std.proofs.Common.{List, None, Option, Some, [], ap, cond, false, filter, flat_map, length, map, not, refl, true, ◌++◌, ◌∙◌, ◌∷◌, ◌≡◌, ℕ, suc}
 use Rattle.std.specs.Prelude.{Bool, ◌==◌}
 use Rattle.std.specs.Str.{bytes_eq}
-use Rattle.std.proofs.lemmas.List.{map-append}
 use Rattle.cyp_grammar.specs.Spelling.{Ident}
 use Rattle.cyp_term.specs.declared.term.Sort.{Sort}
-use Rattle.cyp_term.specs.declared.term.Sort.TheVariants.{Card, Int, Set}
+use Rattle.cyp_term.specs.declared.term.Sort.TheVariants.{Int}
 use Rattle.cyp_spec.specs.Bodies.{body_lits, body_uses, in_kinds, is_block, is_cell, is_instance, is_name, is_turned, item_lits, kept_body, kept_lit, kept_parts, kept_set, pure_lits}
-use Rattle.cyp_spec.specs.Trees.{ArgTree, BlockOf, BodyTree, Braces, BracesArg, ChunkTree, ClauseTree, Comparing, Conjunction, Inside, InstanceOf, IntTree, ItemTree, Items, LitItem, LitTree, MinusNum, NameMinus, NamePlus, Named, NamedCell, Negation, NoItems, Num, NumPlus, ParamTree, PartName, PartTree, PredTree, PureTree, SameSets, SetTree, SubSets, TermArg, TermCell, TextTree, TrueItem, UnionArg}
+use Rattle.cyp_spec.specs.Trees.{ArgTree, BlockOf, BodyTree, Braces, BracesArg, ChunkTree, Comparing, Conjunction, Inside, InstanceOf, IntTree, ItemTree, Items, LitItem, LitTree, Named, NamedCell, Negation, NoItems, Num, ParamTree, PartName, PartTree, PredTree, PureTree, SameSets, SubSets, TermArg, TermCell, TrueItem, UnionArg}
 use Rattle.cyp_spec.specs.Uses.{Use, arg_sorts, arg_uses, args_uses, chunk_uses, int_uses, lit_uses, param_sort, param_uses, part_uses, parts_uses, pred_named, pred_place, set_parts, set_uses, sorts_of, use_of}
-use Rattle.cyp_spec.proofs.PrintedBare.{bare_arg, bare_body, bare_chunk, bare_ident, bare_int, bare_item, bare_later, bare_lit, bare_param, bare_part, bare_pred, bare_pure, bare_set, bare_use}
+use Rattle.cyp_spec.proofs.PrintedBare.{bare_arg, bare_body, bare_chunk, bare_ident, bare_int, bare_item, bare_later, bare_lit, bare_param, bare_part, bare_pred, bare_pure, bare_use}
 use Rattle.cyp_spec.proofs.PrintedMaps.{both_mapped, filter_mapped, flat_mapped, length_mapped, map_then}
 
 bare_int_uses : (t : IntTree) → int_uses (bare_int t) ≡ map bare_use (int_uses t)

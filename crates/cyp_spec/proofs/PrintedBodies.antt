@@ -1,5 +1,5 @@
 -- Bodies that are read and printed: their names, what they are read as, and that they have no faults.
-use Rattle.std.proofs.Common.{List, [], ap, append_assoc, append-nil, cond, false, filter, flat_map, inl, inr, map, not, refl, subst, sym, true, ◌++◌, ◌∙◌, ◌∷◌, ◌≡◌, ◌&&◌, ◌||◌, ℕ, suc}
+use Rattle.std.proofs.Common.{List, [], ap, append-nil, cond, false, filter, flat_map, inl, inr, map, not, refl, subst, sym, true, ◌++◌, ◌∙◌, ◌∷◌, ◌≡◌, ◌&&◌, ◌||◌, ℕ, suc}
 use Rattle.std.specs.Prelude.{Bool}
 use Rattle.std.specs.List.{list_any}
 use Rattle.cyp_goal.specs.Raw.{lit_once}
@@ -17,37 +17,25 @@ use Rattle.cyp_spec.specs.Bodies.{body_lits, body_uses, in_kinds, is_block, is_c
 use Rattle.cyp_spec.specs.LimitFaults.{size_fault, size_faults}
 use Rattle.cyp_spec.specs.NameFaults.{chunk_faults}
 use Rattle.cyp_spec.specs.PrintedTrees.{body_tree, cell_tree, chunk_tree, later_tree, lit_tree, pure_tree, term_tree}
-use Rattle.cyp_spec.specs.ReadTerms.{Scope, read_chunk, read_chunks, read_lit, read_lits, use_var, var_named}
+use Rattle.cyp_spec.specs.ReadTerms.{Scope, read_chunk, read_chunks, read_lit, read_lits, var_named}
 use Rattle.cyp_spec.specs.Specifications.{read_preds, with_cards}
-use Rattle.cyp_spec.specs.Trees.{BlockOf, BodyTree, ChunkTree, Conjunction, InstanceOf, IntTree, ItemTree, LitItem, LitTree, Named, NamedCell, PredTree, TermCell}
+use Rattle.cyp_spec.specs.Trees.{BlockOf, BodyTree, ChunkTree, Conjunction, InstanceOf, IntTree, ItemTree, LitTree, Named, PredTree}
 use Rattle.cyp_spec.specs.Uses.{Use, chunk_uses, lit_uses, parts_uses}
 use Rattle.cyp_spec.proofs.FormedInstances.{kinds_among, none_each}
 use Rattle.cyp_spec.proofs.FormedOnce.{lits_once}
 use Rattle.cyp_spec.proofs.FormedOwners.{owns_cell}
 use Rattle.cyp_spec.proofs.Names.{Comes, chunks_come, lits_come}
 use Rattle.cyp_spec.proofs.PrintedAgain.{again_preds}
-use Rattle.cyp_spec.proofs.PrintedBack.{AreBack, IsBack, lit_back}
+use Rattle.cyp_spec.proofs.PrintedBack.{IsBack, lit_back}
 use Rattle.cyp_spec.proofs.PrintedChunks.{again_block, again_cell, again_chunk, again_instance, again_size, chunk_back, chunk_kept, chunk_no_fault, chunk_told, printed_chunk_uses}
 use Rattle.cyp_spec.proofs.PrintedFirsts.{Firsts, firsts_each, firsts_mapped, firsts_same, firsts_then}
 use Rattle.cyp_spec.proofs.PrintedKept.{lit_kept}
-use Rattle.cyp_spec.proofs.PrintedMaps.{any_mapped, both_mapped, filter_mapped, flat_then, map_then}
+use Rattle.cyp_spec.proofs.PrintedMaps.{any_mapped, back_among, both_mapped, filter_mapped, flat_among, flat_then, map_then, none_from}
 use Rattle.cyp_spec.proofs.PrintedNames.{HasAll, printed_use}
 use Rattle.cyp_spec.proofs.PrintedUses.{kept_printed_lit, kept_printed_parts, printed_lit_uses, written_lit, written_parts}
 use Rattle.cyp_spec.proofs.Scopes.{Has}
 
 -- ---- lists
-
-pub flat_among : {A B C : Type 0} (f : A → B) (g : B → List C) (h : A → List C) (xs : List A) → ((x : A) → Among x xs → g (f x) ≡ h x) → flat_map g (map f xs) ≡ flat_map h xs
-flat_among f g h [] e = refl
-flat_among f g h (x ∷ xs) e = λ i. e x (inl refl) i ++ flat_among f g h xs (λ y m. e y (inr m)) i
-
-pub none_from : {A B : Type 0} (f : A → List B) (xs : List A) → ((x : A) → Among x xs → f x ≡ []) → flat_map f xs ≡ []
-none_from f [] e = refl
-none_from f (x ∷ xs) e = λ i. e x (inl refl) i ++ none_from f xs (λ y m. e y (inr m)) i
-
-pub back_among : {A B : Type 0} (f : A → B) (g : B → A) (xs : List A) → ((x : A) → Among x xs → g (f x) ≡ x) → map g (map f xs) ≡ xs
-back_among f g [] e = refl
-back_among f g (x ∷ xs) e = λ i. e x (inl refl) i ∷ back_among f g xs (λ y m. e y (inr m)) i
 
 filter_both : {A : Type 0} (p : A → Bool) (xs ys : List A) → filter p (xs ++ ys) ≡ filter p xs ++ filter p ys
 filter_both p [] ys = refl
@@ -190,7 +178,7 @@ module _ (qs : List PredTree) (sc : Scope) (b : BodyTree) where
   pub owns_again : (list_any is_instance b.chunks && not (list_any is_cell b.chunks)) ≡ false → (list_any is_instance again_body.chunks && not (list_any is_cell again_body.chunks)) ≡ false
   owns_again e =
       (λ i. any_mapped (chunk_tree (read_preds qs)) is_instance is_inst (printed_inst (read_preds qs)) (read_chunks qs sc b) i
-          && not (any_mapped (chunk_tree (read_preds qs)) is_cell formed.is_cell (printed_cell (read_preds qs)) (read_chunks qs sc b) i))
+      && not (any_mapped (chunk_tree (read_preds qs)) is_cell formed.is_cell (printed_cell (read_preds qs)) (read_chunks qs sc b) i))
       ∙ turned (list_any is_inst (read_chunks qs sc b)) (list_any formed.is_cell (read_chunks qs sc b)) (owns_cell qs sc b.chunks e)
     where
       turned : (x y : Bool) → (not x || y) ≡ true → (x && not y) ≡ false

@@ -1,22 +1,21 @@
 -- Chunks that are read and printed: their names, what they are read as, and that they have no faults.
-use Rattle.std.proofs.Common.{List, None, Option, Some, [], ap, arith, cond, false, filter, flat_map, inl, inr, length, map, refl, subst, sym, true, ◌++◌, ◌∙◌, ◌∷◌, ◌≡◌, ◌&&◌, ◌≢◌, ℕ, suc}
-use Rattle.std.specs.Prelude.{Bool, nat_le, slice_get, ◌==◌}
+use Rattle.std.proofs.Common.{List, None, Option, Some, [], ap, arith, cond, false, flat_map, inl, inr, length, map, refl, subst, sym, true, ◌++◌, ◌∙◌, ◌∷◌, ◌≡◌, ◌&&◌, ℕ, suc}
+use Rattle.std.specs.Prelude.{Bool, nat_le, ◌==◌}
 use Rattle.std.proofs.lemmas.Bool.{and_from, and_parts}
 use Rattle.cyp_goal.proofs.AllNew.{all_new-without_repeats}
 use Rattle.cyp_goal.specs.Raw.{set_once}
 use Rattle.cyp_grammar.specs.Spelling.{Ident}
-use Rattle.cyp_heap.specs.Chunks.{arg_vars, is_inst}
+use Rattle.cyp_heap.specs.Chunks.{arg_vars}
 use Rattle.cyp_heap.specs.Formed.{arg_sort, sorts_fit, term_part_vars}
-use Rattle.cyp_heap.specs.PredsFormed as formed
 use Rattle.cyp_heap.specs.declared.chunk.Arg.{Arg}
 use Rattle.cyp_heap.specs.declared.chunk.Arg.TheVariants.{Int as IntArg, Set as SetArg}
 use Rattle.cyp_heap.specs.declared.chunk.Chunk.{Chunk}
 use Rattle.cyp_heap.specs.declared.chunk.Chunk.TheVariants.{Block, Cell, Inst}
-use Rattle.cyp_lex.specs.declared.fault.FaultKind.TheVariants.{TooLarge, WrongArity, WrongSort}
+use Rattle.cyp_lex.specs.declared.fault.FaultKind.TheVariants.{TooLarge, WrongArity}
 use Rattle.cyp_term.specs.Terms.{sort_eq, term_eq, term_vars, var_eq, var_term}
 use Rattle.cyp_term.specs.declared.lit.SetTerm.{SetTerm}
 use Rattle.cyp_term.specs.declared.term.Sort.{Sort}
-use Rattle.cyp_term.specs.declared.term.Sort.TheVariants.{Card, Int, Set}
+use Rattle.cyp_term.specs.declared.term.Sort.TheVariants.{Int, Set}
 use Rattle.cyp_term.specs.declared.term.Term.{Term}
 use Rattle.cyp_term.specs.declared.term.Var.{Var}
 use Rattle.cyp_term.proofs.Equality.{Decides-sort_eq}
@@ -24,16 +23,14 @@ use Rattle.cyp_term.proofs.Lists.{Among, Among-left, Among-right}
 use Rattle.cyp_spec.specs.Bodies.{is_block, is_cell, is_instance, kept_parts}
 use Rattle.cyp_spec.specs.LimitFaults.{size_fault}
 use Rattle.cyp_spec.specs.NameFaults.{arg_fault, arg_faults, chunk_faults, fault_at, instance_fault}
-use Rattle.cyp_spec.specs.PrintedTrees.{arg_tree, braces_of, cell_tree, chunk_tree, ident_of, parts_of, pred_name, term_tree, union_arg, var_ident}
+use Rattle.cyp_spec.specs.PrintedTrees.{arg_tree, cell_tree, chunk_tree, ident_of, parts_of, term_tree, union_arg, var_ident}
 use Rattle.cyp_spec.specs.ReadTerms.{Scope, part_elems, part_vars, read_arg, read_args, read_chunk, read_int, read_union, var_named}
 use Rattle.cyp_spec.specs.Specifications.{read_preds}
-use Rattle.cyp_spec.specs.Trees.{ArgTree, BlockOf, Braces, BracesArg, ChunkTree, InstanceOf, IntTree, MinusNum, NameMinus, NamePlus, Named, NamedCell, Num, NumPlus, PartName, PartTree, PredTree, TermArg, TermCell, UnionArg}
-use Rattle.cyp_spec.specs.Uses.{Use, arg_sorts, arg_uses, args_uses, chunk_uses, int_uses, param_sort, pred_named, pred_place, use_of}
-use Rattle.cyp_spec.proofs.FormedScope.{test_false}
-use Rattle.cyp_spec.proofs.FormedInstances.{none_both}
-use Rattle.cyp_spec.proofs.PrintedAgain.{OfPred, again_length, again_named, again_params, again_place, again_pred, again_preds, again_sorts, as_many, fit, name_back, of_pred, printed_sorts, sorts, sorts_are, sorts_plain}
+use Rattle.cyp_spec.specs.Trees.{ArgTree, BlockOf, Braces, BracesArg, ChunkTree, InstanceOf, IntTree, Named, NamedCell, PartName, PartTree, PredTree, TermArg, TermCell, UnionArg}
+use Rattle.cyp_spec.specs.Uses.{Use, arg_sorts, arg_uses, args_uses, chunk_uses, int_uses, param_sort, use_of}
+use Rattle.cyp_spec.proofs.PrintedAgain.{OfPred, again_length, again_named, again_params, again_place, again_preds, again_sorts, as_many, fit, name_back, of_pred, printed_sorts, sorts, sorts_are, sorts_plain}
 use Rattle.cyp_spec.proofs.PrintedBack.{AreBack, arg_once, args_back, term_back}
-use Rattle.cyp_spec.proofs.PrintedFirsts.{Firsts, firsts_mapped, firsts_same, firsts_then}
+use Rattle.cyp_spec.proofs.PrintedFirsts.{Firsts, firsts_mapped, firsts_same}
 use Rattle.cyp_spec.proofs.PrintedKept.{args_kept, int_kept}
 use Rattle.cyp_spec.proofs.PrintedMaps.{length_mapped}
 use Rattle.cyp_spec.proofs.PrintedNames.{printed_use}

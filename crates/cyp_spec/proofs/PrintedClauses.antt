@@ -1,7 +1,7 @@
 -- Clauses that are printed: they are read as what they were, and have no faults.
-use Rattle.std.proofs.Common.{List, [], ap, append_assoc, append-nil, arith, cond, false, filter, flat_map, inl, inr, length, map, not, refl, subst, sym, true, ◌+◌, ◌++◌, ◌≤◌, ◌∙◌, ◌∷◌, ◌≡◌, ◌&&◌, ◌≢◌, ℕ}
+use Rattle.std.proofs.Common.{List, [], ap, append_assoc, arith, cond, false, filter, flat_map, inl, inr, length, map, not, refl, subst, sym, true, ◌++◌, ◌≤◌, ◌∙◌, ◌≡◌, ◌&&◌, ℕ}
 use Rattle.std.specs.Prelude.{Bool, nat_le}
-use Rattle.std.specs.List.{list_all, list_any}
+use Rattle.std.specs.List.{list_any}
 use Rattle.std.specs.Str.{bytes_eq}
 use Rattle.std.proofs.lemmas.Bool.{and_parts, leb-true}
 use Rattle.std.proofs.lemmas.Slice.Eq.{bytes_eq-Decides}
@@ -9,23 +9,22 @@ use Rattle.cyp_goal.specs.Raw.{lit_once}
 use Rattle.cyp_grammar.specs.Spelling.{Ident}
 use Rattle.cyp_heap.specs.PredsFormed.{is_clause_within}
 use Rattle.cyp_heap.specs.declared.pred.Clause.{Clause}
-use Rattle.cyp_lex.specs.declared.fault.Fault.{Fault}
 use Rattle.cyp_lex.specs.declared.fault.FaultKind.TheVariants.{UnboundVariable, Unproductive, WrongSort}
-use Rattle.cyp_term.specs.Terms.{lit_vars, negated, sort_eq, with_all_new}
+use Rattle.cyp_term.specs.Terms.{sort_eq, with_all_new}
 use Rattle.cyp_term.specs.declared.lit.Lit.{Lit}
 use Rattle.cyp_term.specs.declared.term.Sort.{Sort}
-use Rattle.cyp_term.specs.declared.term.Sort.TheVariants.{Card, Int, Set}
+use Rattle.cyp_term.specs.declared.term.Sort.TheVariants.{Int, Set}
 use Rattle.cyp_term.specs.declared.term.Term.{Term}
 use Rattle.cyp_term.specs.declared.term.Var.{Var}
 use Rattle.cyp_term.proofs.Lists.{Among, Among-cases, Among-left, Among-map, Among-right, map_from, some_from, some_out}
 use Rattle.cyp_spec.specs.Bodies.{body_uses, is_cell, is_instance, kept_body, kept_lit}
-use Rattle.cyp_spec.specs.LimitFaults.{guard_of, size_faults, unproductive_fault}
+use Rattle.cyp_spec.specs.LimitFaults.{size_faults, unproductive_fault}
 use Rattle.cyp_spec.specs.NameFaults.{chunk_faults, clause_faults, fault_at, guard_faults, is_set_literal, lit_place, param_names, repeats, sort_faults, unbound_fault}
 use Rattle.cyp_spec.specs.PrintedTrees.{lit_tree, param_tree, params_from, var_ident}
 use Rattle.cyp_spec.specs.ReadTerms.{Scope, compared, read_chunks, read_int, read_lit, read_lits, sort_in, use_var, var_named}
 use Rattle.cyp_spec.specs.Specifications.{clause_scope, count_sort, read_clause}
-use Rattle.cyp_spec.specs.Trees.{BodyTree, ChunkTree, ClauseTree, Comparing, Comparison, Inside, IsAbove, IsAtLeast, IsAtMost, IsBelow, IsEqual, IsUnequal, ItemTree, Items, LitItem, LitTree, Negation, ParamTree, PredTree, SameSets, SubSets}
-use Rattle.cyp_spec.specs.Uses.{Use, lit_uses, param_sort, param_uses, same_name, use_of}
+use Rattle.cyp_spec.specs.Trees.{BodyTree, ChunkTree, ClauseTree, Comparing, Comparison, Inside, IsEqual, Items, LitItem, LitTree, Negation, ParamTree, PredTree, SameSets, SubSets}
+use Rattle.cyp_spec.specs.Uses.{Use, lit_uses, param_sort, param_uses, same_name}
 use Rattle.cyp_spec.proofs.Distinct.{Distinct}
 use Rattle.cyp_spec.proofs.FirstNames.{begins_with}
 use Rattle.cyp_spec.proofs.FormedClauses.{name_sort}
@@ -35,14 +34,14 @@ use Rattle.cyp_spec.proofs.FormedScope.{distinct_params, test_false}
 use Rattle.cyp_spec.proofs.Names.{Comes, lit_comes}
 use Rattle.cyp_spec.proofs.PlainSorts.{ArePlain, body_plain, params_plain, plain_both}
 use Rattle.cyp_spec.proofs.PrintedAgain.{again_clause, again_params, again_preds}
-use Rattle.cyp_spec.proofs.PrintedBack.{AreBack, IsBack, lit_back}
-use Rattle.cyp_spec.proofs.PrintedBodies.{again_body, body_firsts, chunks_again, chunks_right_again, kept_again, lits_again, none_from, owns_again, printed_body_uses, sizes_again, written_again}
+use Rattle.cyp_spec.proofs.PrintedBack.{IsBack, lit_back}
+use Rattle.cyp_spec.proofs.PrintedBodies.{body_firsts, chunks_again, chunks_right_again, kept_again, lits_again, owns_again, sizes_again, written_again}
 use Rattle.cyp_spec.proofs.PrintedFirsts.{Firsts, firsts_mapped, firsts_same}
 use Rattle.cyp_spec.proofs.PrintedKept.{lit_kept, under, under_not}
-use Rattle.cyp_spec.proofs.PrintedMaps.{filter_mapped, length_mapped}
+use Rattle.cyp_spec.proofs.PrintedMaps.{filter_mapped, length_mapped, none_from}
 use Rattle.cyp_spec.proofs.PrintedNames.{HasAll, Nameable, printed_all_new, printed_use, read_back}
-use Rattle.cyp_spec.proofs.PrintedParams.{IsPrinted, distinct_printed, no_params_twice, no_sort_faults, param_vars, params_printed}
-use Rattle.cyp_spec.proofs.PrintedUses.{kept_printed_lit, printed_lit_uses, written_lit}
+use Rattle.cyp_spec.proofs.PrintedParams.{IsPrinted, distinct_printed, names_of, no_params_twice, no_sort_faults, param_vars, params_printed}
+use Rattle.cyp_spec.proofs.PrintedUses.{kept_printed_lit, written_lit}
 use Rattle.cyp_spec.proofs.Scopes.{Has, grow}
 use Rattle.cyp_spec.proofs.TextOrder.{lit_in}
 
@@ -237,10 +236,6 @@ module _ (qs : List PredTree) (ps : List ParamTree) (c : ClauseTree) (once : rep
         | inl a ↦ (let g = guard_printed w a in (g.0, in_guard g.0 g.1, g.2))
         | inr b ↦ body_printed w b
       ]
-
-  names_of : (rs : List ParamTree) → param_names rs ≡ map (λ (u : Use). u.name) (param_uses rs)
-  names_of [] = refl
-  names_of (r ∷ rs) = ap (λ (is : List Ident). r.name ∷ is) (names_of rs)
 
   -- the guard's names are parameters
   none_unbound : (u : Use) → Among u (lit_uses again.guard) → unbound_fault (again_params ps) u ≡ []

@@ -1,7 +1,6 @@
 -- A goal within the limits has few names of each sort.
-use Rattle.std.proofs.Common.{List, [], ap, append_assoc, arith, cond, false, filter, flat_map, inl, inr, length, map, not, refl, subst, sym, true, ◌++◌, ◌≤◌, ◌∙◌, ◌∷◌, ◌≡◌, ◌&&◌, ◌≢◌, ◌⊎◌, ℕ, suc}
+use Rattle.std.proofs.Common.{List, [], ap, arith, cond, false, filter, flat_map, inl, inr, length, map, not, refl, subst, sym, true, ◌++◌, ◌≤◌, ◌∙◌, ◌∷◌, ◌≡◌, ◌&&◌, ◌≢◌, ℕ, suc}
 use Rattle.std.specs.Prelude.{Bool, nat_le}
-use Rattle.std.specs.List.{list_any}
 use Rattle.std.proofs.lemmas.Bool.{and_parts, leb-true, not-true}
 use Rattle.cyp_heap.specs.Chunks.{card_vars, chunk_vars, chunks_vars}
 use Rattle.cyp_heap.specs.Formed.{all_differ, term_part_vars}
@@ -14,12 +13,12 @@ use Rattle.cyp_term.specs.Terms.{is_set_var, lits_vars, sort_eq, term_eq, var_eq
 use Rattle.cyp_term.specs.declared.term.Sort.{Sort}
 use Rattle.cyp_term.specs.declared.term.Sort.TheVariants.{Int, Set}
 use Rattle.cyp_term.specs.declared.term.Var.{Var}
-use Rattle.cyp_term.proofs.Equality.{Decides-sort_eq, Decides-var_eq}
+use Rattle.cyp_term.proofs.Equality.{Decides-var_eq}
 use Rattle.cyp_term.proofs.Lists.{Among, Among-cases, Among-left, Among-map, Among-right, filter_in, filter_out, flat_in, flat_out, map_from, some_from}
 use Rattle.cyp_term.proofs.Repeats.{without_repeats_in}
 use Rattle.cyp_spec.specs.Bodies.{kept_body}
-use Rattle.cyp_spec.specs.NameFaults.{chunk_faults, name_faults}
-use Rattle.cyp_spec.specs.ReadTerms.{Scope, read_chunks, read_lits, sort_in, use_var}
+use Rattle.cyp_spec.specs.NameFaults.{chunk_faults}
+use Rattle.cyp_spec.specs.ReadTerms.{Scope, read_chunks, sort_in, use_var}
 use Rattle.cyp_spec.specs.Specifications.{count_sort, goal_scope, read_goal, universal_scope, with_cards}
 use Rattle.cyp_spec.specs.Trees.{ChunkTree, TextTree}
 use Rattle.cyp_spec.specs.Uses.{Use, param_uses}
@@ -28,7 +27,6 @@ use Rattle.cyp_spec.proofs.FormedCards.{parts_with_cards}
 use Rattle.cyp_spec.proofs.FormedScope.{first_uses, goal_grows, universal_grows}
 use Rattle.cyp_spec.proofs.PrintedGone.{body_goes}
 use Rattle.cyp_spec.proofs.PrintedMaps.{length_mapped}
-use Rattle.cyp_spec.proofs.Scopes.{Has}
 
 -- ---- different elements of a list
 

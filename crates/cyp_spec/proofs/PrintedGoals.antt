@@ -1,22 +1,21 @@
 -- Goals that are printed: they are read as what they were, and have no faults of names and sorts.
-use Rattle.std.proofs.Common.{List, [], ap, append_assoc, false, flat_map, inl, inr, length, map, refl, subst, sym, true, ◌++◌, ◌∙◌, ◌∷◌, ◌≡◌, ◌≤◌, ℕ, suc, zero}
-use Rattle.std.specs.Prelude.{Bool, cond, drop}
+use Rattle.std.proofs.Common.{List, [], ap, flat_map, inl, inr, length, map, refl, subst, sym, true, ◌++◌, ◌∙◌, ◌∷◌, ◌≡◌, ℕ}
+use Rattle.std.specs.Prelude.{cond, drop}
 use Rattle.cyp_heap.specs.Limits.{is_goal_within}
 use Rattle.cyp_heap.specs.declared.goal.Goal.{Goal}
-use Rattle.cyp_lex.specs.declared.fault.Fault.{Fault}
 use Rattle.cyp_lex.specs.declared.fault.FaultKind.TheVariants.{WrongSort}
 use Rattle.cyp_term.specs.Terms.{sort_eq, with_all_new}
 use Rattle.cyp_term.specs.declared.term.Sort.{Sort}
-use Rattle.cyp_term.specs.declared.term.Sort.TheVariants.{Card, Int, Set}
+use Rattle.cyp_term.specs.declared.term.Sort.TheVariants.{Int, Set}
 use Rattle.cyp_term.specs.declared.term.Var.{Var}
 use Rattle.cyp_term.proofs.Lists.{Among, Among-cases, Among-left, Among-right, map_from}
 use Rattle.cyp_spec.specs.Bodies.{body_uses, kept_body}
 use Rattle.cyp_spec.specs.NameFaults.{chunk_faults, fault_at, name_faults, param_names, pred_faults, proc_faults, repeats, set_param_fault, sort_faults}
-use Rattle.cyp_spec.specs.PrintedTrees.{body_tree, param_tree, pure_tree, sort_tree, var_ident}
+use Rattle.cyp_spec.specs.PrintedTrees.{param_tree, pure_tree, sort_tree}
 use Rattle.cyp_spec.specs.ReadTerms.{Scope, read_chunks, read_lits, sort_in, use_var, var_named}
-use Rattle.cyp_spec.specs.Specifications.{count_sort, goal_scope, read_goal, read_preds, universal_scope, with_cards}
+use Rattle.cyp_spec.specs.Specifications.{goal_scope, read_goal, read_preds, universal_scope, with_cards}
 use Rattle.cyp_spec.specs.Trees.{BodyTree, ChunkTree, ParamTree, PredTree, TextTree}
-use Rattle.cyp_spec.specs.Uses.{Use, param_sort, param_uses, same_name, sort_of}
+use Rattle.cyp_spec.specs.Uses.{Use, param_uses, same_name, sort_of}
 use Rattle.cyp_spec.proofs.Distinct.{Distinct}
 use Rattle.cyp_spec.proofs.FormedGoals.{params_none}
 use Rattle.cyp_spec.proofs.FormedInstances.{none_both, none_each}
@@ -24,18 +23,13 @@ use Rattle.cyp_spec.proofs.FormedScope.{distinct_params, first_uses, goal_grows,
 use Rattle.cyp_spec.proofs.FormedSorts.{name_sort}
 use Rattle.cyp_spec.proofs.PrintedAgain.{again_preds, again_text}
 use Rattle.cyp_spec.proofs.PrintedBack.{IsBack}
-use Rattle.cyp_spec.proofs.PrintedBodies.{again_body, back_among, body_firsts, cards_unprinted, chunks_again, chunks_right_again, kept_again, lits_again, none_from, written_again}
+use Rattle.cyp_spec.proofs.PrintedBodies.{again_body, body_firsts, cards_unprinted, chunks_again, chunks_right_again, kept_again, lits_again, written_again}
 use Rattle.cyp_spec.proofs.PrintedFew.{few_names}
 use Rattle.cyp_spec.proofs.PrintedFirsts.{Firsts, firsts_mapped, firsts_same}
-use Rattle.cyp_spec.proofs.PrintedMaps.{length_mapped}
+use Rattle.cyp_spec.proofs.PrintedMaps.{drop_mapped, length_mapped, none_from}
 use Rattle.cyp_spec.proofs.PrintedNames.{HasAll, Nameable, printed_all_new, printed_use, read_back}
 use Rattle.cyp_spec.proofs.PrintedParams.{IsPrinted, distinct_printed, no_params_twice, no_sort_faults, params_printed}
-use Rattle.cyp_spec.proofs.Scopes.{Has, grow}
-
-drop_mapped : {A B : Type 0} (f : A → B) (n : ℕ) (xs : List A) → drop n (map f xs) ≡ map f (drop n xs)
-drop_mapped f zero xs = refl
-drop_mapped f (suc n) [] = refl
-drop_mapped f (suc n) (x ∷ xs) = drop_mapped f n xs
+use Rattle.cyp_spec.proofs.Scopes.{Has}
 
 module _ (t : TextTree) (right : name_faults t ≡ []) (small : is_goal_within (read_goal t) ≡ true) where
   abbrev sc : Scope

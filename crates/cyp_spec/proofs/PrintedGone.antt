@@ -1,5 +1,5 @@
 -- The variable of each name that is kept stands in what is read.
-use Rattle.std.proofs.Common.{List, None, Option, Some, [], ap, arith, cond, false, filter, flat_map, inl, inr, length, map, not, refl, subst, sym, true, ◌++◌, ◌∙◌, ◌∷◌, ◌≡◌, ◌≢◌, ◌⊎◌, ℕ}
+use Rattle.std.proofs.Common.{List, Some, [], ap, arith, cond, false, filter, flat_map, inl, inr, length, not, subst, sym, true, ◌++◌, ◌∷◌, ◌≡◌, ◌⊎◌}
 use Rattle.std.specs.Prelude.{Bool}
 use Rattle.cyp_grammar.specs.Spelling.{Ident}
 use Rattle.cyp_heap.specs.Chunks.{arg_vars}
@@ -16,7 +16,7 @@ use Rattle.cyp_term.proofs.Lists.{Among, Among-cases, Among-left, Among-map, Amo
 use Rattle.cyp_term.proofs.Repeats.{without_repeats_in}
 use Rattle.cyp_spec.specs.Bodies.{body_lits, in_kinds, is_name, is_turned, kept_body, kept_lit, kept_parts, kept_set}
 use Rattle.cyp_spec.specs.NameFaults.{chunk_faults}
-use Rattle.cyp_spec.specs.ReadTerms.{Scope, compared, part_elems, part_vars, read_arg, read_args, read_chunk, read_chunks, read_int, read_lit, read_lits, read_set, read_union, use_var, var_named}
+use Rattle.cyp_spec.specs.ReadTerms.{Scope, compared, part_elems, part_vars, read_arg, read_args, read_chunk, read_chunks, read_int, read_lit, read_lits, read_set, read_union, use_var}
 use Rattle.cyp_spec.specs.Trees.{ArgTree, BlockOf, BodyTree, Braces, BracesArg, ChunkTree, Comparing, Comparison, Inside, InstanceOf, IntTree, IsAbove, IsAtLeast, IsAtMost, IsBelow, IsEqual, IsUnequal, LitTree, MinusNum, NameMinus, NamePlus, Named, NamedCell, Negation, Num, NumPlus, PartName, PartTree, PredTree, SameSets, SetTree, SubSets, TermArg, TermCell, UnionArg}
 use Rattle.cyp_spec.specs.Uses.{Use, arg_uses, args_uses, chunk_uses, int_uses, part_uses, set_parts, use_of}
 use Rattle.cyp_spec.proofs.FormedInstances.{kinds_among}

@@ -1,11 +1,9 @@
 -- The names of what is read and printed are the names that were kept, printed: with some later repeats left out.
-use Rattle.std.proofs.Common.{List, None, Option, Some, [], ap, append-nil, arith, cond, false, filter, flat_map, inl, inr, length, map, not, refl, sym, true, ◌++◌, ◌∙◌, ◌∷◌, ◌≡◌, ◌≢◌, ℕ, suc, zero}
+use Rattle.std.proofs.Common.{List, Some, [], ap, arith, cond, false, filter, flat_map, inl, inr, length, map, not, refl, sym, true, ◌++◌, ◌∙◌, ◌∷◌, ◌≡◌, ◌≢◌}
 use Rattle.std.specs.Prelude.{Bool, neg_ℤ, pos, ◌+ℤ◌}
-use Rattle.cyp_heap.specs.declared.chunk.Arg.{Arg}
-use Rattle.cyp_heap.specs.declared.chunk.Arg.TheVariants.{Int as IntArg, Set as SetArg}
 use Rattle.cyp_term.specs.Terms.{negated, term_eq, var_eq, without_repeats}
 use Rattle.cyp_term.specs.declared.lit.Lit.{Lit}
-use Rattle.cyp_term.specs.declared.lit.Lit.TheVariants.{Eq, Le, Lt, Member, Ne, NotMember, NotSame, NotSub, Same, Sub}
+use Rattle.cyp_term.specs.declared.lit.Lit.TheVariants.{Eq}
 use Rattle.cyp_term.specs.declared.term.Sort.{Sort}
 use Rattle.cyp_term.specs.declared.term.Sort.TheVariants.{Card, Int, Set}
 use Rattle.cyp_term.specs.declared.term.Term.{Term}
@@ -15,9 +13,9 @@ use Rattle.cyp_term.proofs.Lists.{Among}
 use Rattle.cyp_spec.specs.Bodies.{is_name, is_turned, kept_lit, kept_parts, kept_set}
 use Rattle.cyp_spec.specs.PrintedTrees.{var_ident}
 use Rattle.cyp_spec.specs.ReadTerms.{Scope, compared, part_elems, part_vars, read_arg, read_args, read_int, read_lit, read_set, read_union, var_named}
-use Rattle.cyp_spec.specs.Trees.{ArgTree, Braces, BracesArg, Comparing, Comparison, Inside, IntTree, IsAbove, IsAtLeast, IsAtMost, IsBelow, IsEqual, IsUnequal, LitTree, MinusNum, NameMinus, NamePlus, Named, Negation, Num, NumPlus, PartName, PartTree, SameSets, SetTree, SubSets, TermArg, UnionArg}
+use Rattle.cyp_spec.specs.Trees.{ArgTree, Braces, BracesArg, Comparing, Comparison, Inside, IntTree, IsEqual, LitTree, MinusNum, NameMinus, NamePlus, Named, Negation, Num, NumPlus, PartName, PartTree, SameSets, SetTree, SubSets, TermArg, UnionArg}
 use Rattle.cyp_spec.specs.Uses.{Use, arg_uses, args_uses, int_uses, part_uses, set_parts, use_of}
-use Rattle.cyp_spec.proofs.PrintedFirsts.{Firsts, firsts_both, firsts_mapped, firsts_once, firsts_same, firsts_then}
+use Rattle.cyp_spec.proofs.PrintedFirsts.{Firsts, firsts_mapped, firsts_once, firsts_same, firsts_then}
 use Rattle.cyp_spec.proofs.PrintedMaps.{both_mapped}
 use Rattle.cyp_spec.proofs.PrintedNames.{printed_use}
 use Rattle.cyp_spec.proofs.PrintedUses.{based_uses, number_uses, printed_arg_uses, printed_lit_uses, set_use, term_uses, union_uses}

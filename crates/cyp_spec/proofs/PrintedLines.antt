@@ -1,18 +1,18 @@
 -- The tokens of the text of a specification say what its marks say.
-use Rattle.std.proofs.Common.{List, [], ap, append_assoc, append-nil, cond, false, flat_map, inl, inr, length, map, refl, subst, sym, true, ℕ, ◌++◌, ◌∙◌, ◌∷◌, ◌≡◌, ◌⊎◌, Err, Ok, Result}
+use Rattle.std.proofs.Common.{List, [], ap, append_assoc, append-nil, cond, false, flat_map, inl, inr, length, map, refl, subst, sym, true, ℕ, ◌++◌, ◌∙◌, ◌∷◌, ◌≡◌, ◌⊎◌, Ok, Result}
 use Rattle.std.specs.Prelude.{Bool, codes, ◌||◌, ◌&&◌}
-use Rattle.std.proofs.lemmas.Bool.{and_parts}
-use Rattle.cyp_grammar.specs.Lexemes.{Lexeme, Name, Number, Reserved, Said, Symbol, Variable, lexeme_of}
+use Rattle.cyp_grammar.specs.Lexemes.{Lexeme, Said, Symbol, lexeme_of}
 use Rattle.cyp_grammar.specs.Spelling.{Mark}
 use Rattle.cyp_lex.specs.Lexing.{lexed, specification_lexicon, tokens_of}
 use Rattle.cyp_lex.specs.declared.fault.Fault.{Fault}
 use Rattle.cyp_lex.specs.declared.token.Sign.TheVariants.{Comma, LeftParen, RightBracket, RightParen}
 use Rattle.cyp_lex.specs.declared.token.Token.{Token}
 use Rattle.cyp_lex.proofs.Laws.{with_front}
-use Rattle.cyp_lex.proofs.TokenTexts.{Ends, at_blank, at_bracket, at_comma, at_end, at_left, at_line_end, at_right, none_read}
+use Rattle.cyp_lex.proofs.TokenTexts.{Ends, at_blank, at_bracket, at_comma, at_left, at_line_end, at_right, none_read}
 use Rattle.cyp_spec.specs.Printing.{is_closing, is_name, is_opening, is_paren, is_tight, line_of, mark_said, said_text, spaced, spaced_behind}
-use Rattle.cyp_term.proofs.Lists.{Among, Among-left, Among-right}
-use Rattle.cyp_spec.proofs.PrintedTokens.{AllProper, Proper, Reads, map_both, reads_blank, reads_both, reads_line_end, reads_none, reads_token}
+use Rattle.cyp_term.proofs.Lists.{Among}
+use Rattle.cyp_spec.proofs.PrintedMaps.{map_then}
+use Rattle.cyp_spec.proofs.PrintedTokens.{AllProper, Reads, reads_blank, reads_both, reads_line_end, reads_none, reads_token}
 
 -- ---- what follows a token
 
@@ -26,10 +26,7 @@ paren_ends : (k : Said) (bs : List ℕ) → is_paren k ≡ true → Ends (said_t
 paren_ends (Symbol LeftParen) bs e = at_left bs
 paren_ends _ bs e = absurd cc
 
--- what stands between a token and the next one
-gap : Bool → Said → List ℕ → List ℕ
-gap t k bs = cond t [] (codes " ") ++ said_text k ++ bs
-
+-- what stands between a token and the next one ends the token, unless that is an opening one
 gap_ends : (o c n p : Bool) (k : Said) (bs rest : List ℕ) → is_closing k ≡ c → is_paren k ≡ p → (o ≡ true) ⊎ Ends ((cond (o || c || (n && p)) [] (codes " ") ++ said_text k ++ bs) ++ rest)
 gap_ends true c n p k bs rest e f = inl refl
 gap_ends false true n p k bs rest e f = inr (subst (λ (x : List ℕ). Ends x) (sym (append_assoc (said_text k) bs rest)) (closing_ends k (bs ++ rest) e))
@@ -105,10 +102,6 @@ pub record TextTokens (bytes : List ℕ) (ks : List Said) : Type 0 where
   pub lexes : tokens_of bytes ≡ Ok tokens
   pub said : map (λ (l : Lexeme). l.said) (map (lexeme_of bytes) tokens) ≡ ks
 
-map_twice : {A B C : Type 0} (f : A → B) (g : B → C) (xs : List A) → map g (map f xs) ≡ map (λ x. g (f x)) xs
-map_twice f g [] = refl
-map_twice f g (x ∷ xs) = ap (λ (ys : List _). g (f x) ∷ ys) (map_twice f g xs)
-
 whole_text : (bytes : List ℕ) (ks : List Said) → Reads bytes [] bytes [] ks → TextTokens bytes ks
 whole_text bytes ks r = record {
   tokens = r.tokens;
@@ -116,7 +109,7 @@ whole_text bytes ks r = record {
       ap (λ (bs : List ℕ). lexed specification_lexicon 0 0 bs) (sym (append-nil bytes)) ∙ r.lexes
       ∙ ap (λ (x : Result (List Token) Fault). with_front r.tokens x) (none_read (length bytes))
       ∙ ap (λ (ts : List Token). Ok ts) (append-nil r.tokens);
-  said = map_twice (lexeme_of bytes) (λ (l : Lexeme). l.said) r.tokens ∙ r.said;
+  said = map_then (lexeme_of bytes) (λ (l : Lexeme). l.said) (λ t. (lexeme_of bytes t).said) (λ t. refl) r.tokens ∙ r.said;
 }
 
 -- lines one after another, and a last one

@@ -1,6 +1,6 @@
 -- Lists that are mapped before they are worked on.
-use Rattle.std.proofs.Common.{List, [], ap, cond, false, filter, flat_map, inl, inr, length, map, refl, subst, sym, true, ◌++◌, ◌∙◌, ◌∷◌, ◌≡◌, ◌||◌}
-use Rattle.std.specs.Prelude.{Bool}
+use Rattle.std.proofs.Common.{List, [], ap, cond, false, filter, flat_map, inl, inr, length, map, refl, subst, sym, true, ◌++◌, ◌∙◌, ◌∷◌, ◌≡◌, ◌||◌, ℕ, suc, zero}
+use Rattle.std.specs.Prelude.{Bool, drop}
 use Rattle.std.specs.List.{list_any}
 use Rattle.std.proofs.lemmas.List.{map-append}
 use Rattle.cyp_term.specs.Terms.{with_all_new, with_new}
@@ -40,9 +40,26 @@ pub length_mapped : {A B : Type 0} (f : A → B) (xs : List A) → length (map f
 length_mapped f [] = refl
 length_mapped f (x ∷ xs) = cc (length_mapped f xs)
 
+pub drop_mapped : {A B : Type 0} (f : A → B) (n : ℕ) (xs : List A) → drop n (map f xs) ≡ map f (drop n xs)
+drop_mapped f zero xs = refl
+drop_mapped f (suc n) [] = refl
+drop_mapped f (suc n) (x ∷ xs) = drop_mapped f n xs
+
 pub map_among : {A B : Type 0} (f g : A → B) (xs : List A) → ((x : A) → Among x xs → f x ≡ g x) → map f xs ≡ map g xs
 map_among f g [] h = refl
 map_among f g (x ∷ xs) h = cc (h x (inl refl), map_among f g xs (λ y m. h y (inr m)))
+
+pub flat_among : {A B C : Type 0} (f : A → B) (g : B → List C) (h : A → List C) (xs : List A) → ((x : A) → Among x xs → g (f x) ≡ h x) → flat_map g (map f xs) ≡ flat_map h xs
+flat_among f g h [] e = refl
+flat_among f g h (x ∷ xs) e = λ i. e x (inl refl) i ++ flat_among f g h xs (λ y m. e y (inr m)) i
+
+pub none_from : {A B : Type 0} (f : A → List B) (xs : List A) → ((x : A) → Among x xs → f x ≡ []) → flat_map f xs ≡ []
+none_from f [] e = refl
+none_from f (x ∷ xs) e = λ i. e x (inl refl) i ++ none_from f xs (λ y m. e y (inr m)) i
+
+pub back_among : {A B : Type 0} (f : A → B) (g : B → A) (xs : List A) → ((x : A) → Among x xs → g (f x) ≡ x) → map g (map f xs) ≡ xs
+back_among f g [] e = refl
+back_among f g (x ∷ xs) e = λ i. e x (inl refl) i ∷ back_among f g xs (λ y m. e y (inr m)) i
 
 -- ---- first occurrences
 

@@ -1,15 +1,15 @@
 -- The marks of printed terms, literals and chunks are tokens of specifications, where numbers are in range and variables few.
-use Rattle.std.proofs.Common.{List, None, Option, Some, [], ap, arith, false, flat_map, inl, inr, map, nat_abs, refl, subst, sym, true, ℤ, ◌++◌, ◌∙◌, ◌∷◌, ◌≡◌, ◌<◌, ◌≤◌, ◌^◌, ℕ, suc, zero}
-use Rattle.std.specs.Prelude.{Bool, negsuc, pos}
-use Rattle.cyp_grammar.specs.Lexemes.{Lexeme, Name, Number, Reserved, Said, Symbol, lexeme_of, said_by}
-use Rattle.cyp_grammar.specs.Spelling.{Any, At, Fits, Ident, Mark, Match, all_spelling, ident, list_spelling, more_spelling, separated, sign, word}
+use Rattle.std.proofs.Common.{List, None, Option, Some, [], flat_map, inl, inr, map, nat_abs, refl, subst, sym, true, ℤ, ◌++◌, ◌∷◌, ◌≡◌, ◌<◌, ◌≤◌, ◌^◌, ℕ, suc, zero}
+use Rattle.std.specs.Prelude.{negsuc, pos}
+use Rattle.cyp_grammar.specs.Lexemes.{Name, Number, Reserved, Said, Symbol}
+use Rattle.cyp_grammar.specs.Spelling.{Any, At, Mark, all_spelling, ident, list_spelling, more_spelling, separated, sign, word}
 use Rattle.cyp_heap.specs.Chunks.{arg_vars}
 use Rattle.cyp_heap.specs.PredsFormed.{arg_terms, lit_terms}
 use Rattle.cyp_heap.specs.declared.chunk.Arg.{Arg}
 use Rattle.cyp_heap.specs.declared.chunk.Arg.TheVariants.{Int as IntArg, Set as SetArg}
 use Rattle.cyp_lex.proofs.TokenTexts.{IsText, a_number, a_sign, a_word, is_written}
 use Rattle.cyp_lex.specs.declared.token.Sign.{Sign}
-use Rattle.cyp_lex.specs.declared.token.Sign.TheVariants.{AtMost, Comma, Equal, LeftBrace, LeftParen, Less, Minus, Plus, PointsTo, RightBrace, RightParen, Same as SameSign, Subset, TwoPluses, Unequal}
+use Rattle.cyp_lex.specs.declared.token.Sign.TheVariants.{AtMost, Comma, Equal, LeftBrace, LeftParen, Less, Minus, Plus, RightBrace, RightParen, Same as SameSign, Subset, TwoPluses, Unequal}
 use Rattle.cyp_lex.specs.declared.token.TokenKind.TheVariants as kinds
 use Rattle.cyp_lex.specs.declared.token.Word.{Word}
 use Rattle.cyp_lex.specs.declared.token.Word.TheVariants.{In, Not}
@@ -23,7 +23,7 @@ use Rattle.cyp_term.proofs.Lists.{Among, Among-cases, Among-left, Among-right, f
 use Rattle.cyp_spec.specs.Grammar.{arg_spelling, braces_spelling, int_spelling, lit_spelling, part_spelling, parts_spelling, set_spelling}
 use Rattle.cyp_spec.specs.PrintedTrees.{arg_tree, braces_of, lit_tree, parts_of, set_tree, term_tree, term_tree_by, union_arg, var_ident}
 use Rattle.cyp_spec.specs.Printing.{mark_said}
-use Rattle.cyp_spec.specs.Trees.{Braces, IntTree, PartName, PartTree, SetTree}
+use Rattle.cyp_spec.specs.Trees.{Braces, IntTree, PartName, PartTree}
 use Rattle.cyp_spec.proofs.PrintedLines.{saids}
 use Rattle.cyp_spec.proofs.PrintedNames.{var_name_text}
 use Rattle.cyp_spec.proofs.PrintedTokens.{AllProper, Proper, proper_name}

@@ -1,14 +1,13 @@
 -- The names by which variables are printed: different variables of a scope have different names, which are read back.
-use Rattle.std.proofs.Common.{List, [], ap, arith, cond, decimal, false, filter, inl, inr, length, map, refl, subst, sym, true, ℕ, suc, ◌+◌, ◌++◌, ◌<◌, ◌≤◌, ◌∙◌, ◌∷◌, ◌≡◌, ◌≢◌, ◌^◌}
-use Rattle.std.specs.Prelude.{Bool, ◌&&◌, ◌==◌}
+use Rattle.std.proofs.Common.{List, [], ap, arith, cond, decimal, false, inl, inr, map, refl, sym, true, ℕ, suc, ◌+◌, ◌++◌, ◌<◌, ◌≤◌, ◌∙◌, ◌∷◌, ◌≡◌, ◌≢◌, ◌^◌}
+use Rattle.std.specs.Prelude.{Bool, ◌==◌}
 use Rattle.std.specs.List.{list_all}
 use Rattle.std.specs.Str.{bytes_eq}
 use Rattle.std.proofs.lemmas.Bool.{and_parts, and_from}
 use Rattle.std.proofs.lemmas.Bool.Decides.{nat_tests}
 use Rattle.std.proofs.lemmas.Fmt.{decimal_injective}
 use Rattle.std.proofs.lemmas.Slice.Eq.{bytes_eq-Decides}
-use Rattle.cyp_grammar.specs.Spelling.{Ident}
-use Rattle.cyp_lex.specs.Lexing.{is_digit, is_name_byte, is_name_start, name_kind, words}
+use Rattle.cyp_lex.specs.Lexing.{is_digit, is_name_byte, name_kind, words}
 use Rattle.cyp_lex.specs.declared.token.TokenKind.TheVariants as kinds
 use Rattle.cyp_lex.proofs.TokenTexts.{IsText, a_name, decimal_digits}
 use Rattle.cyp_term.specs.Terms.{sort_eq, with_all_new}

@@ -1,5 +1,5 @@
 -- Parameters that are printed: their names differ, and their uses are those of the parameters, printed.
-use Rattle.std.proofs.Common.{List, None, Option, Some, [], ap, append_assoc, arith, cond, false, filter, inl, inr, length, map, refl, subst, sym, true, ◌+◌, ◌++◌, ◌∙◌, ◌∷◌, ◌≡◌, ◌≢◌, ℕ, suc}
+use Rattle.std.proofs.Common.{List, None, Option, Some, [], ap, append_assoc, arith, cond, false, filter, inl, inr, length, map, refl, subst, sym, true, ◌+◌, ◌++◌, ◌∙◌, ◌∷◌, ◌≡◌, ◌≢◌, ℕ}
 use Rattle.std.specs.Prelude.{Bool}
 use Rattle.std.specs.List.{list_any}
 use Rattle.std.specs.Str.{bytes_eq}
@@ -10,19 +10,18 @@ use Rattle.cyp_lex.specs.declared.fault.FaultKind.TheVariants.{DuplicateName, Wr
 use Rattle.cyp_term.specs.Terms.{sort_eq}
 use Rattle.cyp_term.specs.declared.term.Sort.{Sort}
 use Rattle.cyp_term.specs.declared.term.Sort.TheVariants.{Card, Int, Set}
-use Rattle.cyp_term.specs.declared.term.Var.{Var}
 use Rattle.cyp_term.proofs.Equality.{Decides-sort_eq}
-use Rattle.cyp_term.proofs.Lists.{Among, Among-cases, Among-left, Among-map, Among-right, map_from, some_out}
+use Rattle.cyp_term.proofs.Lists.{Among, Among-cases, map_from, some_out}
 use Rattle.cyp_spec.specs.NameFaults.{fault_at, known_sort, param_names, repeats, sort_fault, sort_faults}
 use Rattle.cyp_spec.specs.PrintedTrees.{param_tree, params_from, sort_tree, var_ident}
 use Rattle.cyp_spec.specs.ReadTerms.{Scope, rank_of, sort_in, use_var, var_named}
 use Rattle.cyp_spec.specs.Trees.{ParamTree}
 use Rattle.cyp_spec.specs.Uses.{Use, param_sort, param_uses, sort_of, use_of}
-use Rattle.cyp_spec.proofs.Distinct.{Distinct, distinct_apart, distinct_right}
+use Rattle.cyp_spec.proofs.Distinct.{Distinct, distinct_apart}
 use Rattle.cyp_spec.proofs.FirstNames.{var_has}
 use Rattle.cyp_spec.proofs.PlainSorts.{params_plain}
 use Rattle.cyp_spec.proofs.PrintedAgain.{sort_back}
-use Rattle.cyp_spec.proofs.PrintedMaps.{map_among, map_then}
+use Rattle.cyp_spec.proofs.PrintedMaps.{map_among}
 use Rattle.cyp_spec.proofs.PrintedNames.{HasAll, Nameable, names_kept, printed_use}
 use Rattle.cyp_spec.proofs.Scopes.{Has}
 
@@ -102,7 +101,7 @@ param_vars ps more d = map_among (use_var (param_uses ps ++ more)) (use_var (par
 
 pub params_printed : (sc : Scope) (ps : List ParamTree) → ((u : Use) → Among u (param_uses ps) → sort_in sc u.name.text ≡ u.sort) → param_uses (map param_tree (map (use_var sc) (param_uses ps))) ≡ map (printed_use sc) (param_uses ps)
 params_printed sc ps right =
-    ap (λ (us : List Use). us) (twice (param_uses ps)) ∙ map_among (λ u. use_of (sort_of (sort_tree (use_var sc u).sort)) (var_ident (use_var sc u))) (printed_use sc) (param_uses ps) (λ u m.
+    twice (param_uses ps) ∙ map_among (λ u. use_of (sort_of (sort_tree (use_var sc u).sort)) (var_ident (use_var sc u))) (printed_use sc) (param_uses ps) (λ u m.
     ap (λ (s : Sort). use_of s (var_ident (use_var sc u))) (ap (λ (s : Sort). sort_of (sort_tree s)) (right u m) ∙ sort_back u.sort (params_plain ps u m)))
   where
     twice : (us : List Use) → param_uses (map param_tree (map (use_var sc) us)) ≡ map (λ u. use_of (sort_of (sort_tree (use_var sc u).sort)) (var_ident (use_var sc u))) us
@@ -111,7 +110,7 @@ params_printed sc ps right =
 
 -- ---- no name twice
 
-names_of : (ps : List ParamTree) → param_names ps ≡ map (λ (u : Use). u.name) (param_uses ps)
+pub names_of : (ps : List ParamTree) → param_names ps ≡ map (λ (u : Use). u.name) (param_uses ps)
 names_of [] = refl
 names_of (p ∷ ps) = ap (λ (is : List Ident). p.name ∷ is) (names_of ps)
 

@@ -1,9 +1,8 @@
 -- Predicates that are printed: they are read as what they were, and have no faults.
-use Rattle.std.proofs.Common.{List, None, Option, Some, [], ap, cond, false, flat_map, inl, inr, length, map, refl, subst, sym, true, ◌++◌, ◌∙◌, ◌∷◌, ◌≡◌, ◌&&◌, ℕ, suc, zero}
+use Rattle.std.proofs.Common.{List, [], ap, cond, flat_map, inl, inr, length, map, refl, true, ◌++◌, ◌∙◌, ◌∷◌, ◌≡◌, ◌&&◌, ℕ, suc, zero}
 use Rattle.std.specs.Prelude.{Bool, nat_le, slice_get}
 use Rattle.std.specs.List.{list_all}
 use Rattle.std.proofs.lemmas.Bool.{and_parts}
-use Rattle.cyp_grammar.specs.Spelling.{Ident}
 use Rattle.cyp_heap.specs.PredsFormed.{is_clause_within}
 use Rattle.cyp_heap.specs.declared.pred.Clause.{Clause}
 use Rattle.cyp_heap.specs.declared.pred.Pred.{Pred}
@@ -14,11 +13,11 @@ use Rattle.cyp_term.proofs.Lists.{Among, Among-map, each_at}
 use Rattle.cyp_spec.specs.LimitFaults.{extra_pred_fault, guard_of, is_pred_within, overlap_faults, overlaps, pred_limit_faults, size_faults, unproductive_fault}
 use Rattle.cyp_spec.specs.NameFaults.{clause_faults, clauses, fault_at, lit_place, param_names, pred_faults, repeats}
 use Rattle.cyp_spec.specs.Specifications.{read_clause, read_pred, read_preds}
-use Rattle.cyp_spec.specs.Trees.{ClauseTree, ParamTree, PredTree}
+use Rattle.cyp_spec.specs.Trees.{ClauseTree, PredTree}
 use Rattle.cyp_spec.proofs.FormedInstances.{none_both, none_each, test_true}
 use Rattle.cyp_spec.proofs.FormedScope.{test_false}
-use Rattle.cyp_spec.proofs.PrintedAgain.{again_clause, again_params, again_pred, again_preds, again_sorts}
-use Rattle.cyp_spec.proofs.PrintedBodies.{flat_among, none_from}
+use Rattle.cyp_spec.proofs.PrintedAgain.{again_clause, again_pred, again_preds, again_sorts}
+use Rattle.cyp_spec.proofs.PrintedMaps.{flat_among, map_among, map_then}
 use Rattle.cyp_spec.proofs.PrintedClauses.{clause_again, clause_right_again, clause_sizes_again, no_param_twice, productive_again}
 
 -- ---- guards that stay apart
@@ -38,14 +37,6 @@ guards_apart guard guard' f seen (c ∷ cs) h e =
     first =
         ap (λ (l : Lit). cond (overlaps seen l) (fault_at GuardsOverlap (lit_place (f c).guard)) []) (h c (inl refl))
         ∙ ap (λ (t : Bool). cond t (fault_at GuardsOverlap (lit_place (f c).guard)) []) (test_false (overlaps seen (guard c)) _ [] parts.0)
-
-mapped_among : {A B : Type 0} (f g : A → B) (xs : List A) → ((x : A) → Among x xs → f x ≡ g x) → map f xs ≡ map g xs
-mapped_among f g [] h = refl
-mapped_among f g (x ∷ xs) h = λ i. h x (inl refl) i ∷ mapped_among f g xs (λ y m. h y (inr m)) i
-
-pub map_map : {A B C : Type 0} (f : A → B) (g : B → C) (xs : List A) → map g (map f xs) ≡ map (λ x. g (f x)) xs
-map_map f g [] = refl
-map_map f g (x ∷ xs) = ap (λ (ys : List _). g (f x) ∷ ys) (map_map f g xs)
 
 -- ---- a predicate without faults
 
@@ -96,8 +87,8 @@ module _ (qs : List PredTree) (q : PredTree) (right : pred_faults qs q ≡ []) (
     where
       clauses_are : map (read_clause (again_preds qs) again.params) (map (again_clause qs q.params) (clauses q)) ≡ map (read_clause qs q.params) (clauses q)
       clauses_are =
-          map_map (again_clause qs q.params) (read_clause (again_preds qs) again.params) (clauses q)
-          ∙ mapped_among (λ c. read_clause (again_preds qs) again.params (again_clause qs q.params c)) (read_clause qs q.params) (clauses q) clause_back
+          map_then (again_clause qs q.params) (read_clause (again_preds qs) again.params) (λ c. read_clause (again_preds qs) again.params (again_clause qs q.params c)) (λ c. refl) (clauses q)
+          ∙ map_among (λ c. read_clause (again_preds qs) again.params (again_clause qs q.params c)) (read_clause qs q.params) (clauses q) clause_back
 
   pub pred_right_again : pred_faults (again_preds qs) again ≡ []
   pred_right_again = λ i. names_part i ++ clauses_part i
@@ -151,8 +142,8 @@ module _ (qs : List PredTree) (right : (q : PredTree) → Among q qs → pred_fa
     where
       list_is : map (read_pred (again_preds qs)) (map (again_pred qs) qs) ≡ map (read_pred qs) qs
       list_is =
-          map_map (again_pred qs) (read_pred (again_preds qs)) qs
-          ∙ mapped_among (λ q. read_pred (again_preds qs) (again_pred qs q)) (read_pred qs) qs (λ q m. pred_again qs q (right q m) (limits q m))
+          map_then (again_pred qs) (read_pred (again_preds qs)) (λ q. read_pred (again_preds qs) (again_pred qs q)) (λ q. refl) qs
+          ∙ map_among (λ q. read_pred (again_preds qs) (again_pred qs q)) (read_pred qs) qs (λ q m. pred_again qs q (right q m) (limits q m))
 
   none : PredTree → List Fault
   none q = []

@@ -1,25 +1,24 @@
 -- The marks of printed bodies, predicates and texts are tokens of specifications, where those of their tree are.
-use Rattle.std.proofs.Common.{List, None, Option, Some, [], ap, arith, false, flat_map, inl, inr, map, refl, subst, sym, true, ◌++◌, ◌∙◌, ◌∷◌, ◌≡◌, ◌<◌, ◌≤◌, ◌⊎◌, ◌^◌, ℕ}
-use Rattle.std.specs.Prelude.{Bool, slice_get}
+use Rattle.std.proofs.Common.{List, [], ap, arith, flat_map, inl, inr, map, refl, subst, sym, ◌++◌, ◌∙◌, ◌∷◌, ◌≡◌, ◌<◌, ◌^◌, ℕ}
+use Rattle.std.specs.Prelude.{slice_get}
 use Rattle.cyp_grammar.specs.Lexemes.{Name, Number, Reserved, Symbol}
-use Rattle.cyp_grammar.specs.Spelling.{Any, At, Ident, Mark, all_spelling, ident, separated, sign, word}
+use Rattle.cyp_grammar.specs.Spelling.{At, Ident, Mark, all_spelling, ident, separated, sign, word}
 use Rattle.cyp_heap.specs.Chunks.{arg_vars}
 use Rattle.cyp_heap.specs.Formed.{term_part_vars}
-use Rattle.cyp_heap.specs.PredsFormed.{arg_terms, chunk_terms, lit_terms}
+use Rattle.cyp_heap.specs.PredsFormed.{arg_terms, lit_terms}
 use Rattle.cyp_heap.specs.declared.chunk.Arg.{Arg}
-use Rattle.cyp_heap.specs.declared.chunk.Chunk.{Chunk}
-use Rattle.cyp_lex.specs.declared.token.Sign.TheVariants.{AndAnd, Bar, Comma, Implies, LeftBrace, LeftBracket, LeftParen, PointsTo, RightBrace, RightBracket, RightParen, Semicolon, TwoStars}
-use Rattle.cyp_lex.specs.declared.token.Word.TheVariants.{Emp, Predicate, Void}
-use Rattle.cyp_term.specs.Terms.{lit_vars, lits_vars, term_vars}
+use Rattle.cyp_lex.specs.declared.token.Sign.TheVariants.{AndAnd, Comma, LeftBrace, LeftBracket, LeftParen, PointsTo, RightBrace, RightBracket, RightParen, Semicolon, TwoStars}
+use Rattle.cyp_lex.specs.declared.token.Word.TheVariants.{Emp}
+use Rattle.cyp_term.specs.Terms.{lit_vars, term_vars}
 use Rattle.cyp_term.specs.declared.lit.Lit.{Lit}
 use Rattle.cyp_term.specs.declared.term.Term.{Term}
 use Rattle.cyp_term.specs.declared.term.Var.{Var}
 use Rattle.cyp_term.proofs.Lists.{Among, Among-cases, Among-left, Among-map, Among-right, flat_in, map_from}
-use Rattle.cyp_spec.specs.Bodies.{body_lits, in_kinds, item_lits, kept_body, kept_lit, pure_lits}
-use Rattle.cyp_spec.specs.Grammar.{arg_spelling, body_spelling, chunk_spelling, clause_spelling, conjunction_sign, heap_spelling, in_braces, int_spelling, item_spelling, later_item, lit_spelling, param_spelling, params_spelling, pure_spelling, sort_word}
+use Rattle.cyp_spec.specs.Bodies.{body_lits, in_kinds, item_lits, kept_body, pure_lits}
+use Rattle.cyp_spec.specs.Grammar.{arg_spelling, body_spelling, chunk_spelling, conjunction_sign, heap_spelling, in_braces, int_spelling, item_spelling, later_item, lit_spelling, param_spelling, params_spelling, pure_spelling, sort_word}
 use Rattle.cyp_spec.specs.NameFaults.{chunk_faults}
-use Rattle.cyp_spec.specs.PrintedTrees.{arg_tree, body_tree, cell_tree, chunk_tree, ident_of, later_tree, lit_tree, param_tree, pred_name, pure_tree, sort_tree, term_tree}
-use Rattle.cyp_spec.specs.ReadTerms.{Scope, read_args, read_chunk, read_chunks, read_int, read_lit, read_lits, use_var, var_named}
+use Rattle.cyp_spec.specs.PrintedTrees.{arg_tree, cell_tree, chunk_tree, ident_of, later_tree, lit_tree, param_tree, pred_name, pure_tree, sort_tree, term_tree}
+use Rattle.cyp_spec.specs.ReadTerms.{Scope, read_args, read_chunk, read_chunks, read_int, read_lit, read_lits, use_var}
 use Rattle.cyp_spec.specs.Specifications.{read_preds}
 use Rattle.cyp_spec.specs.Trees.{ArgTree, BlockOf, BodyTree, ChunkTree, Conjunction, InstanceOf, IntTree, ItemTree, Items, LitItem, LitTree, Named, NamedCell, NoItems, ParamTree, PredTree, PureTree, TermCell, TrueItem}
 use Rattle.cyp_spec.specs.Uses.{Use, arg_sorts, pred_place}
@@ -28,11 +27,10 @@ use Rattle.cyp_spec.proofs.Names.{Comes, chunks_come, lits_come}
 use Rattle.cyp_spec.proofs.PrintedAgain.{OfPred, name_back, of_pred}
 use Rattle.cyp_spec.proofs.PrintedBodies.{again_body}
 use Rattle.cyp_spec.proofs.PrintedChunks.{again_chunk}
-use Rattle.cyp_spec.proofs.PrintedMarks.{AreShort, AreSmall, IsShort, IsSmall, Marks, arg_marks, each_all, each_list, lit_marks, marks_all, marks_both, marks_cons, marks_first, marks_left, marks_list, marks_none, marks_rest, marks_right, marks_separated, proper_number, proper_sign, proper_var, proper_word, term_marks}
+use Rattle.cyp_spec.proofs.PrintedMarks.{AreShort, AreSmall, IsShort, Marks, arg_marks, each_list, lit_marks, marks_all, marks_both, marks_cons, marks_first, marks_left, marks_list, marks_none, marks_rest, marks_right, marks_separated, proper_number, proper_sign, proper_var, proper_word, term_marks}
 use Rattle.cyp_spec.proofs.PrintedTokens.{Proper}
 use Rattle.cyp_spec.proofs.PrintedNames.{HasAll, Nameable, var_small}
 use Rattle.cyp_spec.proofs.PrintedSmall.{block_at, chunk_small, lit_small}
-use Rattle.cyp_spec.proofs.Scopes.{Has}
 
 -- ---- chunks
 

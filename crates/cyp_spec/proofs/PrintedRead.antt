@@ -4,7 +4,7 @@ use Rattle.std.specs.Prelude.{Bool, nat_le, slice_range}
 use Rattle.std.proofs.lemmas.Bool.{le-leb}
 use Rattle.std.proofs.lemmas.List.{map-append}
 use Rattle.cyp_grammar.specs.Lexemes.{Lexeme, Said, lexeme_of, said_by}
-use Rattle.cyp_grammar.specs.Spelling.{Any, At, IsEnd, Mark, Match, all_spelling, ident, sign, word}
+use Rattle.cyp_grammar.specs.Spelling.{Any, At, Mark, Match, all_spelling, ident, sign, word}
 use Rattle.cyp_heap.specs.declared.pred.Pred.{Pred}
 use Rattle.cyp_heap.specs.declared.pred.Preds.{Preds}
 use Rattle.cyp_lex.specs.Lexing.{tokens_of}
@@ -20,7 +20,7 @@ use Rattle.cyp_spec.specs.Grammar.{clause_spelling, in_braces, params_spelling, 
 use Rattle.cyp_spec.specs.LimitFaults.{limit_faults}
 use Rattle.cyp_spec.specs.NameFaults.{name_faults}
 use Rattle.cyp_spec.specs.PrintedTrees.{body_tree, clause_tree, ident_of, param_tree, params_from}
-use Rattle.cyp_spec.specs.Printing.{line_of, mark_said, pred_line, proc_line, specification_text}
+use Rattle.cyp_spec.specs.Printing.{mark_said, specification_text}
 use Rattle.cyp_spec.specs.Reading.{IsReadBy, IsReadFrom, IsReading, IsReadingOf, judge, least_fault, unless_fault}
 use Rattle.cyp_spec.specs.ReadingLaws.{PrintedIsRead}
 use Rattle.cyp_spec.specs.Specifications.{Specification, read_clause, read_pred, read_preds, read_tree}
@@ -30,8 +30,9 @@ use Rattle.cyp_spec.proofs.PrintedBare.{bare_text}
 use Rattle.cyp_spec.proofs.PrintedBareFaults.{limits_none, names_none, read_alike}
 use Rattle.cyp_spec.proofs.PrintedLines.{TextTokens, lines_read, saids}
 use Rattle.cyp_spec.proofs.PrintedMarks.{Marks, marks_said, proper_number, proper_sign, proper_word}
-use Rattle.cyp_spec.proofs.PrintedPlaces.{Placed, place_text, told}
-use Rattle.cyp_spec.proofs.PrintedPreds.{map_map}
+use Rattle.cyp_spec.proofs.PrintedPlacedTexts.{place_text}
+use Rattle.cyp_spec.proofs.PrintedPlaces.{Placed, told}
+use Rattle.cyp_spec.proofs.PrintedMaps.{map_then}
 use Rattle.cyp_spec.proofs.PrintedTexts.{limits_again, names_again, preds_marks_again, printed_proc, tree_again}
 use Rattle.cyp_spec.proofs.PrintedTokens.{AllProper, Proper, proper_name}
 
@@ -114,7 +115,7 @@ pred_line_spells qs q =
     first = clause_spelling (again_clause qs q.params q.first)
 
     others_are : map (again_clause qs q.params) q.others ≡ map (clause_tree (read_preds qs)) (map (read_clause qs q.params) q.others)
-    others_are = sym (map_map (read_clause qs q.params) (clause_tree (read_preds qs)) q.others)
+    others_are = sym (map_then (read_clause qs q.params) (clause_tree (read_preds qs)) (again_clause qs q.params) (λ c. refl) q.others)
 
     clauses_are : first ++ (all_spelling clause_spelling (map (again_clause qs q.params) q.others) ++ sign RightBrace ∷ [])
         ≡ (first ++ all_spelling clause_spelling (map (clause_tree (read_preds qs)) (map (read_clause qs q.params) q.others))) ++ sign RightBrace ∷ []

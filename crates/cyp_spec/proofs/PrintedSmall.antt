@@ -1,17 +1,16 @@
 -- Numbers that are read are in range, where the marks of their tree are tokens of specifications.
-use Rattle.std.proofs.Common.{List, None, Option, Some, [], ap, arith, false, flat_map, inl, inr, map, nat_abs, refl, subst, sym, true, ℤ, ◌++◌, ◌∙◌, ◌∷◌, ◌≡◌, ◌≤◌, ◌⊎◌, ℕ, suc, zero}
+use Rattle.std.proofs.Common.{List, [], arith, flat_map, inl, inr, map, nat_abs, refl, subst, sym, ℤ, ◌++◌, ◌∷◌, ◌≤◌, ℕ, suc, zero}
 use Rattle.std.specs.Prelude.{neg_ℤ, pos, ◌+ℤ◌}
 use Rattle.cyp_grammar.specs.Lexemes.{Number, Reserved, Symbol}
 use Rattle.cyp_grammar.specs.Spelling.{Any, At, Ident, Mark, ident, separated, sign, word}
 use Rattle.cyp_heap.specs.PredsFormed.{arg_terms, chunk_terms, lit_terms}
-use Rattle.cyp_heap.specs.declared.chunk.Arg.{Arg}
-use Rattle.cyp_lex.specs.declared.token.Sign.TheVariants.{Comma, LeftBrace, LeftBracket, LeftParen, Minus, Plus, PointsTo, RightBrace, RightBracket, RightParen, Same as SameSign, Subset, TwoPluses}
+use Rattle.cyp_lex.specs.declared.token.Sign.TheVariants.{Comma, LeftBrace, LeftBracket, LeftParen, PointsTo, RightBrace, RightBracket, RightParen, Same as SameSign, Subset, TwoPluses}
 use Rattle.cyp_lex.specs.declared.token.Word.TheVariants.{In, Not}
 use Rattle.cyp_term.specs.Terms.{negated, term_eq}
 use Rattle.cyp_term.specs.declared.lit.Lit.{Lit}
 use Rattle.cyp_term.specs.declared.lit.Lit.TheVariants.{Eq, Le, Lt, Member, Ne, NotMember, NotSame, NotSub, Same, Sub}
 use Rattle.cyp_term.specs.declared.term.Sort.{Sort}
-use Rattle.cyp_term.specs.declared.term.Sort.TheVariants.{Card, Int, Set}
+use Rattle.cyp_term.specs.declared.term.Sort.TheVariants.{Set}
 use Rattle.cyp_term.specs.declared.term.Term.{Term}
 use Rattle.cyp_term.proofs.Equality.{Decides-term_eq}
 use Rattle.cyp_term.proofs.Lists.{Among, Among-cases, flat_out, map_from}
@@ -82,7 +81,7 @@ module _ (sc : Scope) where
   braces_small p ts h t m =
       let f = map_from (read_int sc) t ts m in
       let inner : Marks (separated (Symbol Comma) int_spelling ts) = marks_left (separated (Symbol Comma) int_spelling ts) (sign RightBrace ∷ [])
-          (marks_rest (At (Symbol LeftBrace) p) (separated (Symbol Comma) int_spelling ts ++ sign RightBrace ∷ []) h) in
+      (marks_rest (At (Symbol LeftBrace) p) (separated (Symbol Comma) int_spelling ts ++ sign RightBrace ∷ []) h) in
       subst (λ (x : Term). IsSmall x) (sym f.2) (int_small f.0 (each_separated (Symbol Comma) int_spelling ts inner f.0 f.1))
 
   part_small : (w : PartTree) → Marks (part_spelling w) → AreSmall (part_elems sc w)

@@ -1,44 +1,38 @@
 -- Texts that are printed: they are read as what they were, have no faults, and their marks are tokens of specifications.
-use Rattle.std.proofs.Common.{List, [], ap, append_assoc, false, flat_map, inl, inr, map, refl, subst, sym, true, ◌++◌, ◌∙◌, ◌∷◌, ◌≡◌, ◌&&◌, ℕ}
+use Rattle.std.proofs.Common.{List, [], ap, false, flat_map, inl, inr, map, refl, subst, sym, true, ◌++◌, ◌∙◌, ◌∷◌, ◌≡◌}
 use Rattle.std.specs.Prelude.{Bool, cond, is_some, slice_get}
 use Rattle.std.proofs.lemmas.Bool.{and_parts}
-use Rattle.std.proofs.lemmas.List.{map-append}
 use Rattle.cyp_goal.specs.Normal.{normal}
-use Rattle.cyp_grammar.specs.Lexemes.{Name, Reserved, Said, Symbol}
-use Rattle.cyp_grammar.specs.Spelling.{Any, At, Ident, Mark, all_spelling, ident, sign, word}
+use Rattle.cyp_grammar.specs.Lexemes.{Symbol}
+use Rattle.cyp_grammar.specs.Spelling.{At, Ident, Mark, all_spelling, ident, sign, word}
 use Rattle.cyp_heap.specs.Limits.{is_goal_within}
 use Rattle.cyp_heap.specs.PredsFormed.{is_clause_within}
-use Rattle.cyp_heap.specs.declared.pred.Pred.{Pred}
-use Rattle.cyp_heap.specs.declared.pred.Preds.{Preds}
 use Rattle.cyp_lex.specs.declared.fault.Fault.{Fault}
 use Rattle.cyp_lex.specs.declared.fault.FaultKind.TheVariants.{TooLarge}
 use Rattle.cyp_lex.specs.declared.token.Sign.TheVariants.{Bar, Implies, LeftBrace, RightBrace}
 use Rattle.cyp_lex.specs.declared.token.Word.TheVariants.{Predicate, Void}
-use Rattle.cyp_term.specs.declared.lit.Lit.{Lit}
 use Rattle.cyp_term.specs.declared.term.Var.{Var}
 use Rattle.cyp_term.proofs.Lists.{Among, map_from}
 use Rattle.cyp_spec.specs.Bodies.{kept_body, kept_lit}
 use Rattle.cyp_spec.specs.Grammar.{body_spelling, clause_spelling, in_braces, lit_spelling, params_spelling, pred_spelling, text_spelling}
 use Rattle.cyp_spec.specs.LimitFaults.{extra_pred_fault, is_root_within, limit_faults, pred_limit_faults, root_of, size_faults}
 use Rattle.cyp_spec.specs.NameFaults.{clause_faults, clauses, fault_at, name_faults, param_names, pred_faults, proc_faults, repeats}
-use Rattle.cyp_spec.specs.PrintedTrees.{body_tree, clause_tree, ident_of, param_tree, params_from}
-use Rattle.cyp_spec.specs.Printing.{line_of, mark_said}
+use Rattle.cyp_spec.specs.PrintedTrees.{ident_of, params_from}
 use Rattle.cyp_spec.specs.ReadTerms.{Scope, read_lit, use_var}
-use Rattle.cyp_spec.specs.Specifications.{Specification, clause_scope, goal_scope, read_clause, read_goal, read_pred, read_preds, read_tree}
-use Rattle.cyp_spec.specs.Trees.{BodyTree, ClauseTree, ParamTree, PredTree, TextTree}
-use Rattle.cyp_spec.specs.Uses.{Use, param_sort, param_uses}
+use Rattle.cyp_spec.specs.Specifications.{Specification, clause_scope, goal_scope, read_clause, read_goal, read_tree}
+use Rattle.cyp_spec.specs.Trees.{BodyTree, ClauseTree, PredTree, TextTree}
+use Rattle.cyp_spec.specs.Uses.{param_sort, param_uses}
 use Rattle.cyp_spec.proofs.FormedInstances.{none_both, none_each, test_true}
 use Rattle.cyp_spec.proofs.Names.{lit_comes}
 use Rattle.cyp_spec.proofs.PrintedAgain.{again_clause, again_params, again_pred, again_preds, again_text}
 use Rattle.cyp_spec.proofs.PrintedBare.{bare_fault, bare_ident}
 use Rattle.cyp_spec.proofs.PrintedBareFaults.{bare_repeats}
-use Rattle.cyp_spec.proofs.PrintedBodies.{again_body, sizes_again}
+use Rattle.cyp_spec.proofs.PrintedBodies.{sizes_again}
 use Rattle.cyp_spec.proofs.PrintedClauses as of_clause
 use Rattle.cyp_spec.proofs.PrintedGoals as of_goal
-use Rattle.cyp_spec.proofs.PrintedLines.{saids}
 use Rattle.cyp_spec.proofs.PrintedMarks.{AreShort, Marks, each_all, lit_marks, marks_all, marks_both, marks_cons, marks_first, marks_left, marks_none, marks_rest, marks_right, proper_sign, proper_word}
 use Rattle.cyp_spec.proofs.PrintedNames.{HasAll, Nameable}
-use Rattle.cyp_spec.proofs.PrintedPreds.{clause_right, clause_within, extra_again, map_map, once, preds_again, preds_limits_again, preds_right_again}
+use Rattle.cyp_spec.proofs.PrintedPreds.{clause_right, clause_within, extra_again, once, preds_again, preds_limits_again, preds_right_again}
 use Rattle.cyp_spec.proofs.PrintedProper.{body_marks, braced_inner, braced_marks, come_short, params_marks}
 use Rattle.cyp_spec.proofs.PrintedSmall.{lit_small}
 

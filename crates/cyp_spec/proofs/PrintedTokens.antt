@@ -1,19 +1,17 @@
 -- The tokens of printed text say what was printed.
-use Rattle.std.proofs.Common.{List, [], ap, append_assoc, append-nil, arith, cond, drop, false, flat_map, inl, inr, length, length-append, map, refl, subst, sym, take, true, ℕ, suc, ◌+◌, ◌-◌, ◌++◌, ◌∙◌, ◌∷◌, ◌≡◌, ◌⊎◌, Err, Ok, Result}
-use Rattle.std.specs.Prelude.{Bool, codes, slice_range, ◌||◌, ◌&&◌}
-use Rattle.cyp_grammar.specs.Lexemes.{Lexeme, Name, Number, Reserved, Said, Symbol, Variable, lexeme_of, said_by}
-use Rattle.cyp_grammar.specs.Spelling.{Mark}
-use Rattle.cyp_lex.specs.Lexing.{is_name_byte, is_name_start, lexed, name_kind, specification_lexicon, tokens_of, with_token, words}
-use Rattle.cyp_lex.specs.Spelled.{sign_text, word_text}
+use Rattle.std.proofs.Common.{List, [], ap, append_assoc, append-nil, arith, drop, inl, inr, length, length-append, map, refl, sym, take, true, ℕ, suc, ◌+◌, ◌-◌, ◌++◌, ◌∙◌, ◌∷◌, ◌≡◌, ◌⊎◌, Err, Ok, Result}
+use Rattle.std.specs.Prelude.{slice_range}
+use Rattle.std.proofs.lemmas.List.{map-append}
+use Rattle.cyp_grammar.specs.Lexemes.{Name, Number, Reserved, Said, Symbol, Variable, lexeme_of, said_by}
+use Rattle.cyp_lex.specs.Lexing.{lexed, specification_lexicon, with_token}
 use Rattle.cyp_lex.specs.declared.fault.Fault.{Fault}
-use Rattle.cyp_lex.specs.declared.token.Sign.{Sign}
-use Rattle.cyp_lex.specs.declared.token.Sign.TheVariants.{Comma, LeftBracket, LeftParen, RightBracket, RightParen}
+use Rattle.cyp_lex.specs.declared.token.Sign.TheVariants.{LeftBracket, LeftParen}
 use Rattle.cyp_lex.specs.declared.token.Token.{Token}
 use Rattle.cyp_lex.specs.declared.token.TokenKind.{TokenKind}
 use Rattle.cyp_lex.specs.declared.token.TokenKind.TheVariants as kinds
 use Rattle.cyp_lex.proofs.Laws.{with_front}
-use Rattle.cyp_lex.proofs.TokenTexts.{Ends, IsText, a_name, a_number, a_sign, a_word, at_blank, at_bracket, at_comma, at_end, at_left, at_line_end, at_right, blank_read, is_written, line_end_read, none_read, open_read, opens, take_front, text_read}
-use Rattle.cyp_spec.specs.Printing.{is_closing, is_name, is_opening, is_paren, is_tight, line_of, mark_said, said_text, spaced, spaced_behind}
+use Rattle.cyp_lex.proofs.TokenTexts.{Ends, IsText, blank_read, line_end_read, open_read, take_front, text_read}
+use Rattle.cyp_spec.specs.Printing.{is_opening, said_text}
 use Rattle.cyp_term.proofs.Lists.{Among}
 
 -- the token that says this has this text
@@ -54,10 +52,6 @@ with_one : (t : Token) (r : Result (List Token) Fault) → with_token t r ≡ wi
 with_one t (Ok ts) = refl
 with_one t (Err f) = refl
 
-pub map_both : {A B : Type 0} (f : A → B) (xs ys : List A) → map f (xs ++ ys) ≡ map f xs ++ map f ys
-map_both f [] ys = refl
-map_both f (x ∷ xs) ys = ap (λ (zs : List _). f x ∷ zs) (map_both f xs ys)
-
 -- ---- one behind the other
 
 pub reads_none : (whole front rest : List ℕ) → Reads whole front [] rest []
@@ -76,7 +70,7 @@ reads_both whole front a b rest ks ls x y = record {
       ∙ ap (λ (r : Result (List Token) Fault). with_front x.tokens r) y.lexes
       ∙ with_two x.tokens y.tokens (lexed specification_lexicon 0 (length ((front ++ a) ++ b)) rest)
       ∙ ap (λ (bs : List ℕ). with_front (x.tokens ++ y.tokens) (lexed specification_lexicon 0 (length bs) rest)) (append_assoc front a b);
-  said = map_both (λ t. (lexeme_of whole t).said) x.tokens y.tokens ∙ ap (λ (zs : List Said). zs ++ map (λ t. (lexeme_of whole t).said) y.tokens) x.said ∙ ap (λ (zs : List Said). ks ++ zs) y.said;
+  said = map-append (λ t. (lexeme_of whole t).said) x.tokens y.tokens ∙ ap (λ (zs : List Said). zs ++ map (λ t. (lexeme_of whole t).said) y.tokens) x.said ∙ ap (λ (zs : List Said). ks ++ zs) y.said;
 }
 
 pub reads_blank : (whole front rest : List ℕ) → Reads whole front (32 ∷ []) rest []

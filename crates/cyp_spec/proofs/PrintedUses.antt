@@ -1,19 +1,18 @@
 -- The names in printed trees: written and kept in one order.
-use Rattle.std.proofs.Common.{List, None, Option, Some, [], ap, append-nil, cond, false, filter, flat_map, map, not, refl, sym, true, ℤ, ◌++◌, ◌∙◌, ◌∷◌, ◌≡◌, ℕ, suc, zero}
-use Rattle.std.specs.Prelude.{Bool, negsuc, pos}
+use Rattle.std.proofs.Common.{List, None, Some, [], ap, append-nil, false, filter, flat_map, map, not, refl, ℤ, ◌++◌, ◌∙◌, ◌∷◌, ◌≡◌, suc, zero}
+use Rattle.std.specs.Prelude.{negsuc, pos}
 use Rattle.cyp_heap.specs.declared.chunk.Arg.{Arg}
 use Rattle.cyp_heap.specs.declared.chunk.Arg.TheVariants.{Int as IntArg, Set as SetArg}
 use Rattle.cyp_heap.specs.Formed.{arg_sort}
 use Rattle.cyp_term.specs.declared.lit.Lit.{Lit}
 use Rattle.cyp_term.specs.declared.lit.Lit.TheVariants.{Eq, Le, Lt, Member, Ne, NotMember, NotSame, NotSub, Same, Sub}
 use Rattle.cyp_term.specs.declared.lit.SetTerm.{SetTerm}
-use Rattle.cyp_term.specs.declared.term.Sort.{Sort}
 use Rattle.cyp_term.specs.declared.term.Sort.TheVariants.{Int, Set}
 use Rattle.cyp_term.specs.declared.term.Term.{Term}
 use Rattle.cyp_term.specs.declared.term.Var.{Var}
 use Rattle.cyp_spec.specs.Bodies.{is_name, kept_lit, kept_parts, kept_set}
 use Rattle.cyp_spec.specs.PrintedTrees.{arg_tree, braces_of, cell_tree, lit_tree, parts_of, set_tree, term_tree, term_tree_by, union_arg, union_tree, var_ident}
-use Rattle.cyp_spec.specs.Trees.{Braces, ChunkTree, IntTree, MinusNum, NameMinus, NamePlus, Named, Num, NumPlus, PartName, PartTree, SetTree, TermArg}
+use Rattle.cyp_spec.specs.Trees.{IntTree, Named, PartName, PartTree, TermArg}
 use Rattle.cyp_spec.specs.Uses.{Use, arg_uses, chunk_uses, int_uses, lit_uses, part_uses, parts_uses, set_parts, set_uses, use_of}
 use Rattle.cyp_spec.specs.Trees.{PredTree}
 
