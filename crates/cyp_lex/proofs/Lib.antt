@@ -1,3 +1,5 @@
 pub mod InOrder
 pub mod Laws
 pub mod Rows
+pub mod TokenTexts
+pub mod TokensSay

@@ -145,7 +145,7 @@ module _ (t : TextTree) (none : name_faults t ≡ []) where
   ]
 
   -- each name of the goal has the sort of its uses
-  name_sort : (u : Use) → Among u kept → sort_in sc u.name.text ≡ u.sort
+  pub name_sort : (u : Use) → Among u kept → sort_in sc u.name.text ≡ u.sort
   name_sort u m =
       ap (λ (us : Scope). sort_in us u.name.text) (sym (new_append [] (first_uses t) post_uses))
       ∙ scope_agrees (pars ++ (written_pre ++ written_post)) kept all_agree u m

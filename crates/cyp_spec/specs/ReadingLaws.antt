@@ -1,5 +1,5 @@
 -- Laws of the reading of texts.
-use Rattle.std.specs.Prelude.{Err, IsTrue, List, Ok, Result, ℕ, ◌≡◌}
+use Rattle.std.specs.Prelude.{Err, IsTrue, List, Ok, Result, length, ℕ, ◌≡◌, ◌≤◌}
 use Rattle.cyp_goal.specs.Raw.{IsRegular, is_sorted}
 use Rattle.cyp_heap.specs.Formed.{IsFormed}
 use Rattle.cyp_heap.specs.PredsFormed.{IsFormedPreds}
@@ -8,6 +8,7 @@ use Rattle.cyp_spec.specs.LimitFaults.{is_root_within, root_of}
 use Rattle.cyp_grammar.specs.Lexemes.{Lexeme}
 use Rattle.cyp_grammar.specs.Spelling.{Match}
 use Rattle.cyp_spec.specs.Grammar.{text_spelling}
+use Rattle.cyp_spec.specs.Printing.{specification_text}
 use Rattle.cyp_spec.specs.Reading.{IsReading}
 use Rattle.cyp_spec.specs.Specifications.{Specification}
 use Rattle.cyp_spec.specs.declared.tree.TextTree.{TextTree}
@@ -43,3 +44,7 @@ ReadIsRegular = (bytes : List ℕ) (s : Specification) → IsReading bytes (Ok s
 -- the predicates of a specification that is read are formed
 abbrev pub ReadPredsAreFormed : Type 0
 ReadPredsAreFormed = (bytes : List ℕ) (s : Specification) → IsReading bytes (Ok s) → IsFormedPreds s.preds
+
+-- a specification that was read is what its printed text is read as, where that text isn't too long
+abbrev pub PrintedIsRead : Type 0
+PrintedIsRead = (bytes : List ℕ) (s : Specification) → IsReading bytes (Ok s) → length (specification_text s) ≤ 65536 → IsReading (specification_text s) (Ok s)

@@ -1,4 +1,4 @@
-ghost use Rattle.cyp_spec.specs.ReadingLaws.{OneReading, OneTree, ReadIsFormed, ReadIsRegular, ReadIsSorted, ReadNotRefused, ReadPredsAreFormed, SomeReading};
+ghost use Rattle.cyp_spec.specs.ReadingLaws.{OneReading, OneTree, PrintedIsRead, ReadIsFormed, ReadIsRegular, ReadIsSorted, ReadNotRefused, ReadPredsAreFormed, SomeReading};
 
 /// Law: lexemes spell one tree of a specification at most.
 pub fn lexemes_spell_one_tree()
@@ -33,4 +33,10 @@ pub fn goal_that_is_read_is_sorted()
 /// Law: the predicates of a specification that is read are formed.
 pub fn predicates_that_are_read_are_formed()
     ensures { ReadPredsAreFormed }
+{}
+
+/// Law: a specification that was read is what its printed text is read as, where that text is no
+/// longer than a text that is read may be.
+pub fn what_is_printed_is_read()
+    ensures { PrintedIsRead }
 {}

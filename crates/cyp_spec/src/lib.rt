@@ -8,6 +8,7 @@ mod tree;
 pub use laws::{
     a_text_has_one_reading, goal_that_is_read_is_formed, goal_that_is_read_is_sorted,
     lexemes_spell_one_tree, no_text_is_read_and_refused, predicates_that_are_read_are_formed,
+    what_is_printed_is_read,
 };
 pub use lit_tree::{BaseTree, LitTree};
 pub use tree::{
