@@ -33,3 +33,4 @@ pub mod Shrink
 pub mod SolveLeaves
 pub mod SolvedLits
 pub mod TidyLeaves
+pub mod VarTables

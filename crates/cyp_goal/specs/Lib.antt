@@ -8,3 +8,4 @@ pub mod Raw
 pub mod Laws
 pub mod Renamed
 pub mod RenamingLaw
+pub mod VarTables

@@ -4,6 +4,7 @@
 
 mod goal_facts;
 mod laws;
+mod var_table;
 
 pub use goal_facts::facts;
 pub use laws::{normal_of_a_normal_form, normal_under_new_logical_names, normal_under_new_names};
