@@ -14,6 +14,7 @@ pub mod Loops
 pub mod Maps
 pub mod NormalKeeps
 pub mod NormalOfNormal
+pub mod Occurring
 pub mod PruneLeaves
 pub mod Ranks
 pub mod Rename

@@ -4,6 +4,7 @@
 
 mod goal_facts;
 mod laws;
+mod occurs;
 mod var_table;
 
 pub use goal_facts::facts;
