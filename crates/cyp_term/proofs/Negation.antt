@@ -1,5 +1,5 @@
 -- A literal or its negation is true, and not both.
-use Rattle.std.proofs.Common.{◌≡◌, ◌⊎◌, ℤ, inl, inr}
+use Rattle.std.proofs.Common.{◌≡◌, ◌⊎◌, ◌↔◌, ℤ, inl, inr}
 use Rattle.std.specs.Ordering.{int_eq}
 use Rattle.std.proofs.lemmas.Bool.{cases_Bool}
 use Rattle.std.proofs.lemmas.Bool.Decides.{Decides-int_eq, not_from_Decides}
@@ -41,3 +41,9 @@ not_both a (Member e s) h k = k h
 not_both a (NotMember e s) h k = h k
 not_both a (Sub s t) h k = k h
 not_both a (NotSub s t) h k = h k
+
+turned_iff : {P Q : Type 0} → P ⊎ Q → (P → Q → ⊥) → Q ↔ (¬ P)
+turned_iff h k = (λ q p. k p q, λ n. elim h [ inl p ↦ absurd (n p) | inr q ↦ q ])
+
+pub negated_iff : (a : Assignment) (l : Lit) → Truth a (negated l) ↔ (¬ (Truth a l))
+negated_iff a l = turned_iff (truth_or_negated a l) (not_both a l)

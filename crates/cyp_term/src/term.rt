@@ -1,11 +1,14 @@
-ghost use Rattle.std.specs.Prelude.{◌≡◌};
+ghost use Rattle.std.specs.Prelude.{◌≡◌, IfOk, false};
 ghost use Rattle.std.specs.Prelude.{negsuc, pos, ◌^◌, ◌-◌, ◌≤ℤ◌};
+ghost use Rattle.std.specs.List.{list_any};
+ghost use Rattle.cyp_term.specs.declared.fail.Fail.TheVariants.{Named};
 ghost use Rattle.cyp_term.specs.Answers.{AnswersUnless};
+ghost use Rattle.cyp_term.specs.Meaning.{Assignment, under, value};
 ghost use Rattle.cyp_term.specs.TermValue.{IsBase, IsTerm};
-ghost use Rattle.cyp_term.specs.Terms.{apply_term, plus, wide_term};
+ghost use Rattle.cyp_term.specs.Terms.{apply_term, plus, term_eq, wide_term};
 
 use crate::copied::{Copied, Exact};
-use crate::fail::NoMemory;
+use crate::fail::{Fail, NoMemory};
 use crate::subst::Subst;
 use std::alloc::Global;
 use std::marker::Model;
@@ -81,10 +84,11 @@ impl Term {
 }
 
 impl Term {
-    /// The term with its base replaced by the base's image. It is `TooWide` exactly where the sum of
-    /// the offsets passes 2^32 in size.
+    /// The term with its base replaced by the base's image. It is `TooWide` exactly where the sum
+    /// of the offsets passes 2^32 in size.
     pub fn apply(self, by: &Subst) -> Result<Term, TooWide>
-        ensures { AnswersUnless (wide_term (apply_term by.now self)) (apply_term by.now self) result }
+        ensures gives { AnswersUnless (wide_term (apply_term by.now self)) (apply_term by.now self) result }
+        ensures value { IfOk result (λ t. (s : Assignment) → value s t ≡ value (under by.now s) self) }
     {
         match self.base {
             Some(var) => match by.image(var) {
@@ -110,6 +114,27 @@ impl Term {
             base: self.base,
             offset,
         })
+    }
+}
+
+impl Term {
+    /// Whether the term is one of these.
+    pub(crate) fn is_among(self, terms: &[Term]) -> bool
+        ensures among { result ≡ list_any (term_eq self) terms.now }
+        ensures narrow { wide_term self ≡ false }
+    {
+        let Term { base, offset } = self;
+        terms
+            .iter()
+            .any(|other| base == other.base && offset == other.offset)
+    }
+}
+
+impl From<TooWide> for Fail<TooWide> {
+    ghost from_gives = { λ wide e. e ≡ Named wide };
+
+    fn from(error: TooWide) -> Fail<TooWide> {
+        Fail::Named(error)
     }
 }
 
