@@ -6,6 +6,7 @@ mod Examples
 pub mod Guards
 pub mod Heights
 pub mod Listings
+pub mod Order
 pub mod PrefixTuples
 pub mod SameChunks
 pub mod Short

@@ -1,14 +1,15 @@
 -- Chunks of symbolic heaps: their variables, their order, substitution in them.
-use Rattle.std.specs.Prelude.{[], ◌++◌, Bool, List, None, Option, Some, cond, false, flat_map, map, nat_lt, suc, true, zero, ◌||◌, ℕ, ◌∷◌}
-use Rattle.std.specs.List.{list_any}
+use Rattle.std.specs.Prelude.{[], ◌&&◌, ◌++◌, Bool, List, None, Option, Some, cond, false, flat_map, map, nat_le, nat_lt, slice_get, suc, true, zero, ◌||◌, ℕ, ◌∷◌}
+use Rattle.std.specs.List.{list_all, list_any}
+use Rattle.cyp_heap.specs.HeapValue.{HeapValue}
 use Rattle.cyp_heap.specs.declared.chunk.Arg.{Arg}
 use Rattle.cyp_heap.specs.declared.chunk.Arg.TheVariants.{Int as IntArg, Set as SetArg}
 use Rattle.cyp_heap.specs.declared.chunk.Chunk.{Chunk}
 use Rattle.cyp_heap.specs.declared.chunk.Chunk.TheVariants.{Block, Cell, Inst}
-use Rattle.cyp_heap.specs.declared.chunk.Heap.{Heap}
 use Rattle.cyp_heap.specs.declared.chunk.InstOf.{InstOf}
 use Rattle.cyp_term.specs.Terms.{apply_set, apply_term, apply_var, set_vars, term_vars, wide_set, wide_term}
 use Rattle.cyp_term.specs.declared.subst.Subst.{Subst}
+use Rattle.cyp_term.specs.declared.term.Term.{Term}
 use Rattle.cyp_term.specs.declared.term.Var.{Var}
 
 -- the cardinality of an instance as a list, empty where it has none
@@ -51,6 +52,15 @@ kind_rank (Inst i) = 0
 kind_rank (Block k) = 1
 kind_rank (Cell k) = 2
 
+-- no chunk stands before one of an earlier kind: instances before blocks before cells
+abbrev pub in_order : List Chunk → Bool
+in_order [] = true
+in_order (c ∷ cs) = list_all (λ d. nat_le (kind_rank c) (kind_rank d)) cs && in_order cs
+
+-- the second chunk is of a later kind than the first
+abbrev pub is_later : Chunk → Chunk → Bool
+is_later c d = nat_lt (kind_rank c) (kind_rank d)
+
 -- the chunk stands after the last of its kind
 abbrev pub put : List Chunk → Chunk → List Chunk
 put [] c = c ∷ []
@@ -66,6 +76,26 @@ abbrev pub without : {A : Type 0} → List A → ℕ → List A
 without [] k = []
 without (x ∷ xs) zero = xs
 without (x ∷ xs) (suc k) = x ∷ without xs k
+
+-- there is a chunk, and it is a cell
+abbrev pub some_cell : Option Chunk → Bool
+some_cell (Some (Cell k)) = true
+some_cell _ = false
+
+-- a cell stands at the place
+abbrev pub is_cell_at : List Chunk → ℕ → Bool
+is_cell_at cs k = some_cell (slice_get cs k)
+
+-- a cell gets the content and keeps its address; other chunks stay
+abbrev pub chunk_with : Term → Chunk → Chunk
+chunk_with t (Cell k) = Cell (record { at = k.at; content = t })
+chunk_with t c = c
+
+-- the cell at the place gets the content, all else stays
+abbrev pub with_content : List Chunk → ℕ → Term → List Chunk
+with_content [] k t = []
+with_content (c ∷ cs) zero t = chunk_with t c ∷ cs
+with_content (c ∷ cs) (suc k) t = c ∷ with_content cs k t
 
 -- ---- substitution
 
@@ -86,7 +116,7 @@ apply_chunk by (Block k) = Block (record { at = apply_term by k.at; size = k.siz
 apply_chunk by (Cell k) = Cell (record { at = apply_term by k.at; content = apply_term by k.content })
 
 -- the substitution in each chunk, in the same order
-abbrev pub apply_heap : Subst → Heap → Heap
+abbrev pub apply_heap : Subst → HeapValue → HeapValue
 apply_heap by h = record { chunks = map (apply_chunk by) h.chunks }
 
 -- ---- offsets past 2 ^ 32

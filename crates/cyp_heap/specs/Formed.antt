@@ -3,6 +3,8 @@ use Rattle.std.specs.Prelude.{[], ◌&&◌, ◌+◌, ◌++◌, ◌==◌, Bool, I
 use Rattle.std.specs.List.{list_all}
 use Rattle.cyp_heap.specs.Chunks.{arg_vars, card_vars, chunks_vars, insts}
 use Rattle.cyp_heap.specs.Limits.{is_within_limits}
+use Rattle.cyp_heap.specs.NodeValue.{NodeValue}
+use Rattle.cyp_heap.specs.PredsValue.{PredsValue}
 use Rattle.cyp_heap.specs.declared.chunk.Arg.{Arg}
 use Rattle.cyp_heap.specs.declared.chunk.Arg.TheVariants.{Int as IntArg, Set as SetArg}
 use Rattle.cyp_heap.specs.declared.chunk.Chunk.{Chunk}
@@ -10,9 +12,7 @@ use Rattle.cyp_heap.specs.declared.chunk.Chunk.TheVariants.{Block, Cell, Inst}
 use Rattle.cyp_heap.specs.declared.chunk.InstOf.{InstOf}
 use Rattle.cyp_heap.specs.declared.goal.Goal.{Goal}
 use Rattle.cyp_heap.specs.declared.goal.Link.{Link}
-use Rattle.cyp_heap.specs.declared.goal.Node.{Node}
 use Rattle.cyp_heap.specs.declared.pred.Pred.{Pred}
-use Rattle.cyp_heap.specs.declared.pred.Preds.{Preds}
 use Rattle.cyp_term.specs.Terms.{lits_vars, sort_eq, term_eq, term_vars, var_in}
 use Rattle.cyp_term.specs.declared.term.Sort.{Sort}
 use Rattle.cyp_term.specs.declared.term.Sort.TheVariants.{Card, Int, Set}
@@ -36,7 +36,7 @@ fits_pred i None = false
 fits_pred i (Some q) = sorts_fit i.args q.params
 
 -- the arguments of the instance fit its predicate in number and sorts
-abbrev pub inst_fits : Preds → InstOf → Bool
+abbrev pub inst_fits : PredsValue → InstOf → Bool
 inst_fits preds i = fits_pred i (slice_get preds.list i.pred)
 
 -- there is a cardinality, and it is a variable of sort Card
@@ -45,7 +45,7 @@ is_card_var None = false
 is_card_var (Some v) = sort_eq v.sort Card
 
 -- each instance fits its predicate; those of the pre have a cardinality, those of the post have none
-abbrev pub insts_fit : Preds → Goal → Bool
+abbrev pub insts_fit : PredsValue → Goal → Bool
 insts_fit preds g =
     list_all (inst_fits preds) (insts g.pre.chunks ++ insts g.post.chunks)
     && list_all (λ (i : InstOf). is_card_var i.card) (insts g.pre.chunks)
@@ -70,7 +70,7 @@ stray_cards g = filter (λ v. sort_eq v.sort Card)
     (g.program ++ g.exist ++ lits_vars g.pure_pre ++ lits_vars g.pure_post ++ flat_map term_part_vars (g.pre.chunks ++ g.post.chunks))
 
 -- what each goal that is read from a text keeps
-pub record IsFormed (preds : Preds) (g : Goal) : Type 0 where
+pub record IsFormed (preds : PredsValue) (g : Goal) : Type 0 where
   -- each instance fits its predicate in number and sorts of arguments
   pub instances_fit : IsTrue (list_all (inst_fits preds) (insts g.pre.chunks ++ insts g.post.chunks))
   -- the program variables are integers and differ
@@ -106,7 +106,7 @@ tuples_short room [] = true
 tuples_short room (k ∷ ks) = nat_le (length k.tuple) room && tuples_short (room + 16) ks
 
 -- at most 4 companions with fitting goals within limits, and short measures that each extend the one before
-pub record IsWellLinked (n : Node) : Type 0 where
+pub record IsWellLinked (n : NodeValue) : Type 0 where
   pub few : IsTrue (nat_le (length n.links) 4)
   pub goals_within : IsTrue (list_all (λ (k : Link). is_within_limits (record { preds = n.preds; goal = k.goal; links = [] })) n.links)
   pub goals_fit : IsTrue (list_all (λ (k : Link). insts_fit n.preds k.goal) n.links)

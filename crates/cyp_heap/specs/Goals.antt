@@ -2,9 +2,9 @@
 use Rattle.std.specs.Prelude.{◌++◌, Bool, List, flat_map, map, ◌||◌}
 use Rattle.std.specs.List.{list_any}
 use Rattle.cyp_heap.specs.Chunks.{apply_heap, chunks_vars, wide_chunk}
+use Rattle.cyp_heap.specs.NodeValue.{NodeValue}
 use Rattle.cyp_heap.specs.declared.goal.Goal.{Goal}
 use Rattle.cyp_heap.specs.declared.goal.Link.{Link}
-use Rattle.cyp_heap.specs.declared.goal.Node.{Node}
 use Rattle.cyp_term.specs.Terms.{apply_lit, apply_set, apply_term, lits_vars, set_vars, term_vars, var_eq, wide_lit, wide_set, wide_term, without_repeats}
 use Rattle.cyp_term.specs.declared.subst.IntBind.{IntBind}
 use Rattle.cyp_term.specs.declared.subst.SetBind.{SetBind}
@@ -24,7 +24,7 @@ abbrev pub goal_vars : Goal → List Var
 goal_vars g = g.program ++ chunks_vars g.pre.chunks ++ chunks_vars g.post.chunks ++ lits_vars g.pure_pre ++ lits_vars g.pure_post
 
 -- the variables of a node in order of first occurrence
-abbrev pub node_vars : Node → List Var
+abbrev pub node_vars : NodeValue → List Var
 node_vars n = without_repeats var_eq (goal_vars n.goal ++ flat_map (λ (k : Link). flat_map term_vars k.tuple ++ image_vars k.map) n.links)
 
 -- ---- substitution
@@ -58,7 +58,7 @@ apply_link by k = record {
 }
 
 -- the substitution in the goal and in each companion's measure and map; the predicates stay
-abbrev pub apply_node : Subst → Node → Node
+abbrev pub apply_node : Subst → NodeValue → NodeValue
 apply_node by n = record { preds = n.preds; goal = apply_goal by n.goal; links = map (apply_link by) n.links }
 
 -- ---- offsets past 2 ^ 32
@@ -72,5 +72,5 @@ abbrev pub wide_link : Link → Bool
 wide_link k = list_any wide_term k.tuple || list_any (λ (b : IntBind). wide_term b.to) k.map.ints || list_any (λ (b : SetBind). wide_set b.to) k.map.sets
 
 -- the goal or one of the companions has an offset past 2 ^ 32
-abbrev pub wide_node : Node → Bool
+abbrev pub wide_node : NodeValue → Bool
 wide_node n = wide_goal n.goal || list_any wide_link n.links

@@ -1,5 +1,9 @@
 pub mod BlockValue
+pub mod HeapValue
 pub mod Chunks
+pub mod Puts
+pub mod PredsValue
+pub mod NodeValue
 pub mod Goals
 pub mod Limits
 pub mod Formed
@@ -7,4 +11,7 @@ pub mod Stores
 pub mod Instances
 pub mod Assertions
 pub mod PredsFormed
+pub mod Keeps
 pub mod Laws
+pub mod ExactChunks
+pub mod ExactNodes

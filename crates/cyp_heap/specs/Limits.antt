@@ -1,13 +1,13 @@
 -- The limits of a node, and its units.
 use Rattle.std.specs.Prelude.{[], ◌&&◌, ◌*◌, ◌+◌, ◌++◌, Bool, List, filter, flat_map, length, nat_le, not, sum_by, ℕ}
 use Rattle.cyp_heap.specs.Goals.{goal_vars, node_vars}
+use Rattle.cyp_heap.specs.NodeValue.{NodeValue}
 use Rattle.cyp_heap.specs.declared.chunk.Arg.{Arg}
 use Rattle.cyp_heap.specs.declared.chunk.Arg.TheVariants.{Int as IntArg, Set as SetArg}
 use Rattle.cyp_heap.specs.declared.chunk.Chunk.{Chunk}
 use Rattle.cyp_heap.specs.declared.chunk.Chunk.TheVariants.{Block, Cell, Inst}
 use Rattle.cyp_heap.specs.declared.goal.Goal.{Goal}
 use Rattle.cyp_heap.specs.declared.goal.Link.{Link}
-use Rattle.cyp_heap.specs.declared.goal.Node.{Node}
 use Rattle.cyp_term.specs.Terms.{is_set_var, lit_elements, sort_eq, term_eq, var_eq, without_repeats}
 use Rattle.cyp_term.specs.declared.lit.Lit.{Lit}
 use Rattle.cyp_term.specs.declared.lit.Lit.TheVariants.{Member, NotMember, NotSame, NotSub, Same, Sub}
@@ -67,11 +67,11 @@ abbrev pub link_units : Link → ℕ
 link_units k = length k.tuple + 2 * length k.map.ints + sum_by (λ (b : SetBind). 1 + set_units b.to) k.map.sets
 
 -- the units of the goal and of all its companions
-abbrev pub node_units : Node → ℕ
+abbrev pub node_units : NodeValue → ℕ
 node_units n = goal_units n.goal + sum_by link_units n.links
 
 -- no limit of a node is passed
-abbrev pub is_within_limits : Node → Bool
+abbrev pub is_within_limits : NodeValue → Bool
 is_within_limits n =
     nat_le (length n.goal.pre.chunks) 16 && nat_le (length n.goal.post.chunks) 16
     && nat_le (length n.goal.pure_pre) 40 && nat_le (length n.goal.pure_post) 40

@@ -4,6 +4,7 @@ use Rattle.std.specs.List.{list_all, list_any}
 use Rattle.cyp_heap.specs.Chunks.{insts, is_inst}
 use Rattle.cyp_heap.specs.Formed.{inst_fits}
 use Rattle.cyp_heap.specs.Limits.{chunk_elements}
+use Rattle.cyp_heap.specs.PredsValue.{PredsValue}
 use Rattle.cyp_heap.specs.declared.chunk.Arg.{Arg}
 use Rattle.cyp_heap.specs.declared.chunk.Arg.TheVariants.{Int as IntArg, Set as SetArg}
 use Rattle.cyp_heap.specs.declared.chunk.Chunk.{Chunk}
@@ -11,7 +12,6 @@ use Rattle.cyp_heap.specs.declared.chunk.Chunk.TheVariants.{Block, Cell, Inst}
 use Rattle.cyp_heap.specs.declared.chunk.InstOf.{InstOf}
 use Rattle.cyp_heap.specs.declared.pred.Clause.{Clause}
 use Rattle.cyp_heap.specs.declared.pred.Pred.{Pred}
-use Rattle.cyp_heap.specs.declared.pred.Preds.{Preds}
 use Rattle.cyp_term.specs.Entailment.{satisfiable}
 use Rattle.cyp_term.specs.Integers.{is_int_lit}
 use Rattle.cyp_term.specs.Regions.{lit_set_vars}
@@ -111,7 +111,7 @@ abbrev pub counts_params : Pred → Clause → Bool
 counts_params q c = nat_le (count_of Int q.params) c.ints && nat_le (count_of Set q.params) c.sets
 
 -- each instance fits its predicate, and has no cardinality and the tag 0
-abbrev pub insts_plain : Preds → Clause → Bool
+abbrev pub insts_plain : PredsValue → Clause → Bool
 insts_plain preds c = list_all (λ (i : InstOf). inst_fits preds i && is_none i.card && (i.tag == 0)) (insts c.heap.chunks)
 
 -- no limit of a clause is passed
@@ -124,11 +124,11 @@ is_clause_within c =
 -- ---- predicates
 
 -- each clause of each predicate passes the test
-abbrev pub all_clauses : (Pred → Clause → Bool) → Preds → Bool
+abbrev pub all_clauses : (Pred → Clause → Bool) → PredsValue → Bool
 all_clauses test preds = list_all (λ (q : Pred). list_all (test q) q.clauses) preds.list
 
 -- what the predicates of each specification keep
-pub record IsFormedPreds (preds : Preds) : Type 0 where
+pub record IsFormedPreds (preds : PredsValue) : Type 0 where
   -- at most 16 predicates
   pub few : IsTrue (nat_le (length preds.list) 16)
   -- from 1 to 8 clauses, and at most 8 parameters, each an integer or a set

@@ -150,6 +150,12 @@ impl Copied for Term {
     }
 }
 
+impl Copied for Sort {
+    fn copy(&self, _alloc: Global) -> Result<Sort, NoMemory> {
+        Ok(*self)
+    }
+}
+
 impl Exact for Sort {
     ghost use Rattle.std.proofs.Common.{rules};
 
