@@ -3,18 +3,15 @@ use Rattle.std.proofs.Common.{◌≡◌, ◌∙◌, ◌||◌, [], ◌∷◌, ◌
 use Rattle.std.specs.List.{flat_map, list_any}
 use Rattle.std.proofs.lemmas.List.Folds.{list_any-append}
 use Rattle.cyp_goal.proofs.Loops.{rest_step}
-use Rattle.cyp_term.specs.Terms.{set_vars, term_vars, var_eq, var_in, with_all_new, with_new}
+use Rattle.cyp_term.proofs.Repeats.{with_all_new_append}
+use Rattle.cyp_term.specs.Terms.{set_vars, term_vars, var_eq, var_in, with_all_new}
 use Rattle.cyp_term.specs.declared.lit.SetTerm.{SetTerm}
 use Rattle.cyp_term.specs.declared.term.Term.{Term}
 use Rattle.cyp_term.specs.declared.term.Var.{Var}
 
-pub all_new_joined : {A : Type 0} (eq : A → A → Bool) (seen xs ys : List A) → with_all_new eq seen (xs ++ ys) ≡ with_all_new eq (with_all_new eq seen xs) ys
-all_new_joined eq seen [] ys = refl
-all_new_joined eq seen (x ∷ xs) ys = all_new_joined eq (with_new eq seen x) xs ys
-
 -- two parts
 pub added_two : (old mid new xs ys : List Var) → mid ≡ with_all_new var_eq old xs → new ≡ with_all_new var_eq mid ys → new ≡ with_all_new var_eq old (xs ++ ys)
-added_two old mid new xs ys e f = f ∙ ap (λ vs. with_all_new var_eq vs ys) e ∙ sym (all_new_joined var_eq old xs ys)
+added_two old mid new xs ys e f = f ∙ ap (λ vs. with_all_new var_eq vs ys) e ∙ sym (with_all_new_append var_eq old xs ys)
 
 pub met_two : (vs xs ys : List Var) (a b : Bool) → a ≡ list_any (λ v. var_in v vs) xs → b ≡ list_any (λ v. var_in v vs) ys → (a || b) ≡ list_any (λ v. var_in v vs) (xs ++ ys)
 met_two vs xs ys a b e f = ap₂ (λ x y. x || y) e f ∙ sym (list_any-append (λ v. var_in v vs) xs ys)
@@ -24,7 +21,7 @@ pub added_item : {X : Type 0} (f : X → List Var) (xs : List X) (i : ℕ) (x : 
     → new ≡ with_all_new var_eq old (f x) → with_all_new var_eq new (flat_map f (drop (i + 1) xs)) ≡ r
 added_item f xs i x old new r h lt is e =
     rest_step (λ (s : List Var) ys. with_all_new var_eq s (flat_map f ys)) xs i r old new x h lt is
-    (λ ys. all_new_joined var_eq old (f x) (flat_map f ys) ∙ ap (λ vs. with_all_new var_eq vs (flat_map f ys)) (sym e))
+    (λ ys. with_all_new_append var_eq old (f x) (flat_map f ys) ∙ ap (λ vs. with_all_new var_eq vs (flat_map f ys)) (sym e))
 
 -- each variable of a list is a list of one
 abbrev pub alone : Var → List Var

@@ -1,3 +1,4 @@
+pub mod SolvedSides
 pub mod Solving
 pub mod Tidying
 pub mod Pruning

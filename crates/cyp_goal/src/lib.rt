@@ -5,6 +5,7 @@
 mod goal_facts;
 mod laws;
 mod occurs;
+mod solving;
 mod var_table;
 
 pub use goal_facts::facts;
