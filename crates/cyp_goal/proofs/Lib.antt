@@ -3,6 +3,7 @@ pub mod AllNew
 pub mod EachVar
 mod Examples
 pub mod Extended
+pub mod FirstPlaces
 pub mod FirstSolved
 pub mod Fits
 pub mod LinksCards

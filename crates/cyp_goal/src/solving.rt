@@ -1,7 +1,7 @@
 ghost use Rattle.std.specs.Prelude.{◌≡◌, IfOk, IsTrue, MatchBool, MatchOption, None, Some, false, is_some};
-ghost use Rattle.cyp_goal.specs.Solving.{solved_any, solved_eq, solved_set, solved_side};
+ghost use Rattle.cyp_goal.specs.Solving.{first_solved, solved_any, solved_eq, solved_set, solved_side, wide_subst};
 ghost use Rattle.cyp_goal.specs.SolvedSides.{IsAnswer, IsFirst, Solves, may_solve, set_answer, side_answer, solves, term_answer};
-ghost use Rattle.cyp_term.specs.Terms.{base_eq, sort_eq, var_in};
+ghost use Rattle.cyp_term.specs.Terms.{base_eq, sort_eq, var_in, wide_set};
 ghost use Rattle.cyp_term.specs.declared.lit.Lit.TheVariants.{Eq, Same};
 
 use cyp_heap::Goal;
@@ -93,5 +93,70 @@ impl Unknowns<'_> {
             (Unknowns::Existential(_), Lit::Same(s, t)) => self.side_of_sets(s, t),
             _ => None,
         }
+    }
+    /// The place of the first literal that is solved, and the side.
+    pub(crate) fn first(&self, lits: &[Lit]) -> Option<(usize, Side)>
+        ensures { MatchOption result (first_solved (solves self.now) lits.now ≡ None) (λ p. IsFirst (solves self.now) lits.now p.0 p.1) }
+    {
+        for place in 0..lits.len() {
+            if let Some(side) = self.side(&lits[place]) {
+                return Some((place, side));
+            }
+        }
+        None
+    }
+}
+
+/// The offsets of a set term's elements are in range.
+fn narrow(set: &SetTerm)
+    ensures { wide_set set.now ≡ false }
+{
+    for elem in set.elems() {
+        let _offset = elem.offset();
+    }
+}
+
+fn solve_term(alloc: Global, s: Term, t: Term) -> Result<Subst, Fail<TooWide>>
+    requires { IsTrue (is_some (term_answer s t)) }
+    ensures { Solves (term_answer s t) result }
+{
+    let Some(var) = s.base() else { unreachable!() };
+    let to = t.plus(-s.offset())?;
+    let ints = vec![in alloc; IntBind { var, to }]?;
+    Ok(Subst {
+        ints: List::from_vec(ints),
+        sets: List::from_vec(Vec::new(alloc)),
+    })
+}
+
+fn solve_set(alloc: Global, s: &SetTerm, t: SetTerm) -> Result<Subst, NoMemory>
+    requires { IsTrue (is_some (set_answer s.now t)) }
+    ensures gives { IfOk result (λ by. set_answer s.now t ≡ Some by) }
+    ensures narrow { IfOk result (λ by. wide_subst by ≡ false) }
+{
+    let ([var], []) = (s.vars(), s.elems()) else { unreachable!() };
+    narrow(&t);
+    let sets = vec![in alloc; SetBind { var: *var, to: t }]?;
+    Ok(Subst {
+        ints: List::from_vec(Vec::new(alloc)),
+        sets: List::from_vec(sets),
+    })
+}
+
+/// What the equation gives, solved for this side.
+pub(crate) fn solve(alloc: Global, lit: Lit, side: Side) -> Result<Subst, Fail<TooWide>>
+    requires { IsTrue (is_some (side_answer side lit)) }
+    ensures { Solves (side_answer side lit) result }
+{
+    match lit {
+        Lit::Eq(s, t) => match side {
+            Side::Left => solve_term(alloc, s, t),
+            Side::Right => solve_term(alloc, t, s),
+        },
+        Lit::Same(s, t) => match side {
+            Side::Left => Ok(solve_set(alloc, &s, t)?),
+            Side::Right => Ok(solve_set(alloc, &t, s)?),
+        },
+        _ => unreachable!(),
     }
 }
