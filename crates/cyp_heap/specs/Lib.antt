@@ -12,6 +12,7 @@ pub mod Instances
 pub mod Assertions
 pub mod PredsFormed
 pub mod Keeps
+pub mod Applied
 pub mod Laws
 pub mod ExactChunks
 pub mod ExactNodes
