@@ -1,5 +1,6 @@
 pub mod Added
 pub mod AllNew
+pub mod Differing
 pub mod EachVar
 mod Examples
 pub mod Extended

@@ -6,6 +6,7 @@ mod goal_facts;
 mod laws;
 mod occurs;
 mod solving;
+mod substitution;
 mod var_table;
 
 pub use goal_facts::facts;

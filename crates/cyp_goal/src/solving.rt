@@ -24,7 +24,7 @@ pub(crate) enum Side {
     Right,
 }
 
-fn is_among(var: Var, vars: &[Var]) -> bool
+pub(crate) fn is_among(var: Var, vars: &[Var]) -> bool
     ensures { result ≡ var_in var vars.now }
 {
     vars.iter().any(|other| *other == var)

@@ -1,0 +1,160 @@
+ghost use Rattle.std.specs.Prelude.{◌≡◌, [], Bool, IsTrue, List, false, map, true};
+ghost use Rattle.std.specs.List.{list_any};
+ghost use Rattle.cyp_term.specs.Answers.{GivesUnless};
+ghost use Rattle.cyp_term.specs.Images.{image_elems, image_vars};
+ghost use Rattle.cyp_term.specs.Terms.{apply_lit, apply_set, apply_term, term_eq, var_eq, wide_lit, wide_set, wide_term, without_repeats};
+ghost use Rattle.cyp_term.specs.declared.subst.Subst.{Subst as TheSubst};
+
+use crate::solving::is_among;
+use cyp_term::{Fail, List, Lit, SetTerm, Subst, Term, TooWide, Var};
+use std::alloc::Global;
+
+/// What a substitution applies to.
+pub(crate) trait Apply {
+    ghost applied: { TheSubst → Self → Self };
+
+    ghost is_wide: { Self → Bool };
+
+    /// Whether it is its own image. Its offsets are in range.
+    fn stays(&self, by: &Subst) -> bool
+        ensures same { result ≡ true → applied by.now self.now ≡ self.now }
+        ensures narrow { result ≡ true → is_wide self.now ≡ false };
+
+    /// Its image. It is `TooWide` exactly where an offset in it passes 2^32 in size.
+    fn image(&self, alloc: Global, by: &Subst) -> Result<Self, Fail<TooWide>>
+        ensures { GivesUnless (is_wide (applied by.now self.now)) (applied by.now self.now) result };
+}
+
+/// The images of the items. Those that stay aren't made anew.
+pub(crate) fn apply_all<T: Apply + Drop>(
+    alloc: Global,
+    mut items: List<T>,
+    by: &Subst,
+) -> Result<List<T>, Fail<TooWide>>
+    ensures { GivesUnless (list_any T.is_wide (map (T.applied by.now) items)) (map (T.applied by.now) items) result }
+{
+    for place in 0..items.len() {
+        let item = &items.as_slice()[place];
+        if !item.stays(by) {
+            let image = item.image(alloc, by)?;
+            let _old = items.set(place, image);
+        }
+    }
+    Ok(items)
+}
+
+/// Whether each item is its own image. Their offsets are in range.
+fn all_stay<T: Apply>(items: &[T], by: &Subst) -> bool
+    ensures same { result ≡ true → map (T.applied by.now) items.now ≡ items.now }
+    ensures narrow { result ≡ true → list_any T.is_wide items.now ≡ false }
+{
+    for item in items {
+        if !item.stays(by) {
+            return false;
+        }
+    }
+    true
+}
+
+impl Apply for Term {
+    ghost applied = { apply_term };
+
+    ghost is_wide = { wide_term };
+
+    fn stays(&self, by: &Subst) -> bool {
+        let _offset = self.offset();
+        match self.base() {
+            Some(var) => by.image(var).is_none(),
+            None => true,
+        }
+    }
+
+    fn image(&self, _alloc: Global, by: &Subst) -> Result<Term, Fail<TooWide>> {
+        Ok(self.apply(by)?)
+    }
+}
+
+fn unbound(vars: &[Var], by: &Subst) -> bool
+    ensures vars { result ≡ true → image_vars by.now vars.now ≡ vars.now }
+    ensures elems { result ≡ true → image_elems by.now vars.now ≡ [] }
+{
+    for var in vars {
+        if by.set_image(*var).is_some() {
+            return false;
+        }
+    }
+    true
+}
+
+fn differ_vars(vars: &[Var]) -> bool
+    ensures { result ≡ true → without_repeats var_eq vars.now ≡ vars.now }
+{
+    for k in 0..vars.len() {
+        if is_among(vars[k], &vars[..k]) {
+            return false;
+        }
+    }
+    true
+}
+
+fn same_term(a: Term, b: Term) -> bool
+    ensures { result ≡ term_eq a b }
+{
+    a.base() == b.base() && a.offset() == b.offset()
+}
+
+fn is_term_among(term: Term, terms: &[Term]) -> bool
+    ensures { result ≡ list_any (term_eq term) terms.now }
+{
+    terms.iter().any(|other| same_term(term, *other))
+}
+
+fn differ_terms(terms: &[Term]) -> bool
+    ensures { result ≡ true → without_repeats term_eq terms.now ≡ terms.now }
+{
+    for k in 0..terms.len() {
+        if is_term_among(terms[k], &terms[..k]) {
+            return false;
+        }
+    }
+    true
+}
+
+impl Apply for SetTerm {
+    ghost applied = { apply_set };
+
+    ghost is_wide = { wide_set };
+
+    fn stays(&self, by: &Subst) -> bool {
+        unbound(self.vars(), by)
+            && differ_vars(self.vars())
+            && all_stay(self.elems(), by)
+            && differ_terms(self.elems())
+    }
+
+    fn image(&self, alloc: Global, by: &Subst) -> Result<SetTerm, Fail<TooWide>> {
+        self.apply(alloc, by)
+    }
+}
+
+impl Apply for Lit {
+    ghost applied = { apply_lit };
+
+    ghost is_wide = { wide_lit };
+
+    fn stays(&self, by: &Subst) -> bool {
+        match self {
+            Lit::Eq(a, b) | Lit::Ne(a, b) | Lit::Le(a, b) | Lit::Lt(a, b) => {
+                a.stays(by) && b.stays(by)
+            }
+            Lit::Member(a, b) | Lit::NotMember(a, b) => a.stays(by) && b.stays(by),
+            Lit::Same(a, b) | Lit::NotSame(a, b) | Lit::Sub(a, b) | Lit::NotSub(a, b) => {
+                a.stays(by) && b.stays(by)
+            }
+        }
+    }
+
+    fn image(&self, alloc: Global, by: &Subst) -> Result<Lit, Fail<TooWide>> {
+        self.apply(alloc, by)
+    }
+}
