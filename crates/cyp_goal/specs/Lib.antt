@@ -5,6 +5,7 @@ pub mod Pruning
 pub mod Numbering
 pub mod Normal
 pub mod Facts
+pub mod Failures
 pub mod Raw
 pub mod Laws
 pub mod Renamed

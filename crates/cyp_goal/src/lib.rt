@@ -2,6 +2,7 @@
 //! of the normal form.
 #![tactic(auto)]
 
+mod draft;
 mod goal_facts;
 mod laws;
 mod occurs;
@@ -9,5 +10,6 @@ mod solving;
 mod substitution;
 mod var_table;
 
+pub use draft::TooLarge;
 pub use goal_facts::facts;
 pub use laws::{normal_of_a_normal_form, normal_under_new_logical_names, normal_under_new_names};

@@ -1,12 +1,15 @@
 ghost use Rattle.std.specs.Prelude.{◌≡◌, [], Bool, IsTrue, List, false, map, true};
 ghost use Rattle.std.specs.List.{list_any};
+ghost use Rattle.cyp_heap.specs.Chunks.{apply_arg, apply_card, apply_chunk, apply_heap, wide_arg, wide_chunk};
+ghost use Rattle.cyp_heap.specs.Goals.{apply_bind, apply_goal, apply_link, apply_set_bind, wide_goal, wide_link};
 ghost use Rattle.cyp_term.specs.Answers.{GivesUnless};
 ghost use Rattle.cyp_term.specs.Images.{image_elems, image_vars};
 ghost use Rattle.cyp_term.specs.Terms.{apply_lit, apply_set, apply_term, term_eq, var_eq, wide_lit, wide_set, wide_term, without_repeats};
 ghost use Rattle.cyp_term.specs.declared.subst.Subst.{Subst as TheSubst};
 
 use crate::solving::is_among;
-use cyp_term::{Fail, List, Lit, SetTerm, Subst, Term, TooWide, Var};
+use cyp_heap::{Arg, Chunk, Goal, Heap, Link};
+use cyp_term::{Fail, IntBind, List, Lit, SetBind, SetTerm, Subst, Term, TooWide, Var};
 use std::alloc::Global;
 
 /// What a substitution applies to.
@@ -157,4 +160,148 @@ impl Apply for Lit {
     fn image(&self, alloc: Global, by: &Subst) -> Result<Lit, Fail<TooWide>> {
         self.apply(alloc, by)
     }
+}
+
+impl Apply for Arg {
+    ghost applied = { apply_arg };
+
+    ghost is_wide = { wide_arg };
+
+    fn stays(&self, by: &Subst) -> bool {
+        match self {
+            Arg::Int(term) => term.stays(by),
+            Arg::Set(set) => set.stays(by),
+        }
+    }
+
+    fn image(&self, alloc: Global, by: &Subst) -> Result<Arg, Fail<TooWide>> {
+        self.apply(alloc, by)
+    }
+}
+
+fn card_stays(card: Option<Var>, by: &Subst) -> bool
+    ensures { result ≡ true → apply_card by.now card ≡ card }
+{
+    match card {
+        Some(var) => by.image(var).is_none(),
+        None => true,
+    }
+}
+
+impl Apply for Chunk {
+    ghost applied = { apply_chunk };
+
+    ghost is_wide = { wide_chunk };
+
+    fn stays(&self, by: &Subst) -> bool {
+        match self {
+            Chunk::Inst(inst) => {
+                card_stays(inst.card, by) && all_stay(inst.args.as_slice(), by)
+            }
+            Chunk::Block(block) => block.at().stays(by),
+            Chunk::Cell(cell) => cell.at.stays(by) && cell.content.stays(by),
+        }
+    }
+
+    fn image(&self, alloc: Global, by: &Subst) -> Result<Chunk, Fail<TooWide>> {
+        self.apply(alloc, by)
+    }
+}
+
+impl Apply for IntBind {
+    ghost applied = { apply_bind };
+
+    ghost is_wide = { λ b. wide_term b.to };
+
+    fn stays(&self, by: &Subst) -> bool {
+        self.to.stays(by)
+    }
+
+    fn image(&self, _alloc: Global, by: &Subst) -> Result<IntBind, Fail<TooWide>> {
+        Ok(IntBind {
+            var: self.var,
+            to: self.to.apply(by)?,
+        })
+    }
+}
+
+impl Apply for SetBind {
+    ghost applied = { apply_set_bind };
+
+    ghost is_wide = { λ b. wide_set b.to };
+
+    fn stays(&self, by: &Subst) -> bool {
+        self.to.stays(by)
+    }
+
+    fn image(&self, alloc: Global, by: &Subst) -> Result<SetBind, Fail<TooWide>> {
+        Ok(SetBind {
+            var: self.var,
+            to: self.to.apply(alloc, by)?,
+        })
+    }
+}
+
+fn apply_heap(alloc: Global, heap: Heap, by: &Subst) -> Result<Heap, Fail<TooWide>>
+    ensures { GivesUnless (list_any wide_chunk (apply_heap by.now heap).chunks) (apply_heap by.now heap) result }
+{
+    let chunks = apply_all(alloc, heap.into_chunks(), by)?;
+    Ok(Heap::new(chunks))
+}
+
+fn apply_link(alloc: Global, link: Link, by: &Subst) -> Result<Link, Fail<TooWide>>
+    ensures { GivesUnless (wide_link (apply_link by.now link)) (apply_link by.now link) result }
+{
+    let Link {
+        goal,
+        own,
+        map,
+        tuple,
+    } = link;
+    let Subst { ints, sets } = map;
+    let tuple = apply_all(alloc, tuple, by)?;
+    let ints = apply_all(alloc, ints, by)?;
+    let sets = apply_all(alloc, sets, by)?;
+    let map = Subst { ints, sets };
+    Ok(Link {
+        goal,
+        own,
+        map,
+        tuple,
+    })
+}
+
+pub(crate) fn apply_links(alloc: Global, links: List<Link>, by: &Subst) -> Result<List<Link>, Fail<TooWide>>
+    ensures { GivesUnless (list_any wide_link (map (apply_link by.now) links)) (map (apply_link by.now) links) result }
+{
+    let mut applied = Vec::with_capacity(alloc, links.len())?;
+    for link in links.into_vec() {
+        applied.push(apply_link(alloc, link, by)?)?;
+    }
+    Ok(List::from_vec(applied))
+}
+
+pub(crate) fn apply_goal(alloc: Global, goal: Goal, by: &Subst) -> Result<Goal, Fail<TooWide>>
+    ensures { GivesUnless (wide_goal (apply_goal by.now goal)) (apply_goal by.now goal) result }
+{
+    let Goal {
+        program,
+        exist,
+        pure_pre,
+        pre,
+        pure_post,
+        post,
+    } = goal;
+    let pure_pre = apply_all(alloc, pure_pre, by)?;
+    let pre = apply_heap(alloc, pre, by)?;
+    let pure_post = apply_all(alloc, pure_post, by)?;
+    let post = apply_heap(alloc, post, by)?;
+    Ok(Goal {
+        program,
+        exist,
+        pure_pre,
+        pre,
+        pure_post,
+        post,
+    })
 }
