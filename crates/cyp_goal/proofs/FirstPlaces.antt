@@ -8,7 +8,7 @@ use Rattle.std.proofs.lemmas.Option.{slice_get_read}
 use Rattle.cyp_goal.proofs.FirstSolved.{first_at, none_found}
 use Rattle.cyp_goal.specs.SolvedSides.{IsAnswer, IsFirst, side_answer}
 use Rattle.cyp_goal.specs.Solving.{first_solved}
-use Rattle.cyp_goal.specs.declared.solving.Side.{Side}
+use Rattle.cyp_goal.specs.declared.equations.Side.{Side}
 use Rattle.cyp_term.specs.declared.lit.Lit.{Lit}
 use Rattle.cyp_term.specs.declared.subst.Subst.{Subst}
 

@@ -35,5 +35,6 @@ pub mod SameVars
 pub mod Shrink
 pub mod SolveLeaves
 pub mod SolvedLits
+pub mod SolvingTurns
 pub mod TidyLeaves
 pub mod VarTables

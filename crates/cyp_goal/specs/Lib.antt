@@ -10,4 +10,5 @@ pub mod Raw
 pub mod Laws
 pub mod Renamed
 pub mod RenamingLaw
+pub mod Turns
 pub mod VarTables

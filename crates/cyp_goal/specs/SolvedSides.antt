@@ -1,10 +1,10 @@
 -- Sides of equations that are solved.
-use Rattle.std.specs.Prelude.{[], ◌&&◌, ◌<◌, ◌≡◌, ◌∷◌, Bool, Err, IfSome, IsTrue, List, None, Ok, Option, Result, Some, false, is_some, length, neg_ℤ, not, option_map, remove, slice_get, true, ℕ}
+use Rattle.std.specs.Prelude.{[], ◌&&◌, ◌<◌, ◌≡◌, ◌∷◌, Bool, Err, IfSome, IsTrue, List, MatchOption, None, Ok, Option, Result, Some, false, is_some, length, neg_ℤ, not, option_map, remove, slice_get, true, ℕ}
 use Rattle.cyp_goal.specs.Solving.{bind_int, bind_set, first_solved, solved_any, solved_eq, wide_subst}
-use Rattle.cyp_goal.specs.declared.solving.Side.{Side}
-use Rattle.cyp_goal.specs.declared.solving.Side.TheVariants.{Left, Right}
-use Rattle.cyp_goal.specs.declared.solving.Unknowns.{Unknowns}
-use Rattle.cyp_goal.specs.declared.solving.Unknowns.TheVariants.{Existential, Logical}
+use Rattle.cyp_goal.specs.declared.equations.Side.{Side}
+use Rattle.cyp_goal.specs.declared.equations.Side.TheVariants.{Left, Right}
+use Rattle.cyp_goal.specs.declared.equations.Unknowns.{Unknowns}
+use Rattle.cyp_goal.specs.declared.equations.Unknowns.TheVariants.{Existential, Logical}
 use Rattle.cyp_term.specs.Terms.{plus, var_in}
 use Rattle.cyp_term.specs.declared.fail.Fail.{Fail}
 use Rattle.cyp_term.specs.declared.fail.Fail.TheVariants.{Named, NoMemory}
@@ -58,6 +58,10 @@ pub record IsFirst (f : Lit → Option Subst) (ls : List Lit) (place : ℕ) (sid
   pub by : Subst
   pub answer : side_answer side lit ≡ Some by
   pub first : first_solved f ls ≡ Some (by, remove ls place)
+
+-- the place and side of the first literal with an answer, or none where there is none
+abbrev pub FirstBy : (Lit → Option Subst) → List Lit → Option (ℕ × Side) → Type 0
+FirstBy f ls r = MatchOption r (first_solved f ls ≡ None) (λ p. IsFirst f ls p.0 p.1)
 
 -- the answer, or that it has an offset past 2 ^ 32
 abbrev pub Solves : {E : Type 0} → Option Subst → Result Subst (Fail E) → Type 0

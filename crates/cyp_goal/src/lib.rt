@@ -3,6 +3,7 @@
 #![tactic(auto)]
 
 mod draft;
+mod equations;
 mod goal_facts;
 mod laws;
 mod occurs;

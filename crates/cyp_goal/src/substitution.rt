@@ -7,7 +7,7 @@ ghost use Rattle.cyp_term.specs.Images.{image_elems, image_vars};
 ghost use Rattle.cyp_term.specs.Terms.{apply_lit, apply_set, apply_term, term_eq, var_eq, wide_lit, wide_set, wide_term, without_repeats};
 ghost use Rattle.cyp_term.specs.declared.subst.Subst.{Subst as TheSubst};
 
-use crate::solving::is_among;
+use crate::equations::is_among;
 use cyp_heap::{Arg, Chunk, Goal, Heap, Link};
 use cyp_term::{Fail, IntBind, List, Lit, SetBind, SetTerm, Subst, Term, TooWide, Var};
 use std::alloc::Global;

@@ -1,7 +1,7 @@
 use Rattle.std.proofs.Common.{arith}
 use Rattle.cyp_goal.proofs.FirstPlaces.{is_first, is_no_first}
 use Rattle.cyp_goal.specs.SolvedSides.{solves}
-use Rattle.cyp_goal.proofs.solving.Unknowns.first.Goals as goal
+use Rattle.cyp_goal.proofs.equations.Unknowns.first.Goals as goal
 
 pub returns-in-Some : goal.returns-in-Some
 returns-in-Some c =
