@@ -36,5 +36,6 @@ pub mod Shrink
 pub mod SolveLeaves
 pub mod SolvedLits
 pub mod SolvingTurns
+pub mod Tidied
 pub mod TidyLeaves
 pub mod VarTables

@@ -9,6 +9,7 @@ mod laws;
 mod occurs;
 mod solving;
 mod substitution;
+mod tidying;
 mod var_table;
 
 pub use draft::TooLarge;
