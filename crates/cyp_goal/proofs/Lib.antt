@@ -1,8 +1,10 @@
 pub mod Added
 pub mod AllNew
+pub mod Differing
 pub mod EachVar
 mod Examples
 pub mod Extended
+pub mod FirstPlaces
 pub mod FirstSolved
 pub mod Fits
 pub mod LinksCards
@@ -14,6 +16,7 @@ pub mod Loops
 pub mod Maps
 pub mod NormalKeeps
 pub mod NormalOfNormal
+pub mod Occurring
 pub mod PruneLeaves
 pub mod Ranks
 pub mod Rename
@@ -32,4 +35,7 @@ pub mod SameVars
 pub mod Shrink
 pub mod SolveLeaves
 pub mod SolvedLits
+pub mod SolvingTurns
+pub mod Tidied
 pub mod TidyLeaves
+pub mod VarTables

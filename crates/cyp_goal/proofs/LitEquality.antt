@@ -1,6 +1,7 @@
 -- The test of equality of literals decides it.
-use Rattle.std.proofs.Common.{◌≡◌, [], ◌∷◌, List, Bool, true, ◌&&◌, Decides, refl}
+use Rattle.std.proofs.Common.{◌≡◌, [], ◌∷◌, List, Bool, true, ◌&&◌, Decides, ◌↔◌, refl, subst}
 use Rattle.std.proofs.lemmas.Bool.{and_from, and_parts, false≢true}
+use Rattle.cyp_goal.proofs.SameVars.{same_bool}
 use Rattle.cyp_term.proofs.Equality.{Decides-term_eq, Decides-var_eq}
 use Rattle.cyp_term.specs.Terms.{lists_eq, lit_eq, set_eq, term_eq, var_eq}
 use Rattle.cyp_term.specs.declared.lit.Lit.{Lit}
@@ -23,14 +24,14 @@ module _ {A : Type 0} (eq : A → A → Bool) (decides : (x y : A) → Decides (
   lists_self [] = refl
   lists_self (x ∷ xs) = and_from (eq x x) (lists_eq eq xs xs) ((decides x x).1 refl) (lists_self xs)
 
-set_same : (a b : SetTerm) → set_eq a b ≡ true → a ≡ b
+pub set_same : (a b : SetTerm) → set_eq a b ≡ true → a ≡ b
 set_same a b e =
     let both = and_parts (lists_eq var_eq a.vars b.vars) (lists_eq term_eq a.elems b.elems) e in
     let vars = lists_same var_eq Decides-var_eq a.vars b.vars both.0 in
     let elems = lists_same term_eq Decides-term_eq a.elems b.elems both.1 in
     λ i. record { vars = vars i; elems = elems i }
 
-set_self : (a : SetTerm) → set_eq a a ≡ true
+pub set_self : (a : SetTerm) → set_eq a a ≡ true
 set_self a = and_from (lists_eq var_eq a.vars a.vars) (lists_eq term_eq a.elems a.elems) (lists_self var_eq Decides-var_eq a.vars) (lists_self term_eq Decides-term_eq a.elems)
 
 term_same : (a b : Term) → term_eq a b ≡ true → a ≡ b
@@ -74,3 +75,10 @@ lit_self (NotSub a b) = and_from (set_eq a a) (set_eq b b) (set_self a) (set_sel
 
 pub Decides-lit_eq : (l m : Lit) → Decides (lit_eq l m) (l ≡ m)
 Decides-lit_eq l m = (lit_same l m, λ e. rw e (lit_self m))
+
+-- a test that decides equality is the test
+pub same_test : {A : Type 0} (b c : Bool) (x y : A) → (b ≡ true) ↔ (x ≡ y) → Decides c (x ≡ y) → b ≡ c
+same_test b c x y h d = same_bool b c (λ e. d.1 (h.0 e)) (λ e. h.1 (d.0 e))
+
+pub Decides-set_eq : (a b : SetTerm) → Decides (set_eq a b) (a ≡ b)
+Decides-set_eq a b = (set_same a b, λ e. subst (λ x. set_eq a x ≡ true) e (set_self a))

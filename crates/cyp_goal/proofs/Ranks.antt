@@ -11,10 +11,10 @@ use Rattle.cyp_term.specs.Terms.{sort_eq, var_eq, var_in}
 use Rattle.cyp_term.specs.declared.term.Sort.{Sort}
 use Rattle.cyp_term.specs.declared.term.Var.{Var}
 
-rank_here : (k : ℕ) (u : Var) (us : List Var) (v : Var) → var_eq u v ≡ true → rank_from k (u ∷ us) v ≡ k
+pub rank_here : (k : ℕ) (u : Var) (us : List Var) (v : Var) → var_eq u v ≡ true → rank_from k (u ∷ us) v ≡ k
 rank_here k u us v e = ap (λ b. elim b [ true ↦ k | false ↦ rank_from (cond (sort_eq u.sort v.sort) (suc k) k) us v ]) e
 
-rank_next : (k : ℕ) (u : Var) (us : List Var) (v : Var) → var_eq u v ≡ false → rank_from k (u ∷ us) v ≡ rank_from (cond (sort_eq u.sort v.sort) (suc k) k) us v
+pub rank_next : (k : ℕ) (u : Var) (us : List Var) (v : Var) → var_eq u v ≡ false → rank_from k (u ∷ us) v ≡ rank_from (cond (sort_eq u.sort v.sort) (suc k) k) us v
 rank_next k u us v e = ap (λ b. elim b [ true ↦ k | false ↦ rank_from (cond (sort_eq u.sort v.sort) (suc k) k) us v ]) e
 
 next_least : (b : Bool) (k : ℕ) → k ≤ cond b (suc k) k

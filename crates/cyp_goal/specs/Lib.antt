@@ -1,10 +1,14 @@
+pub mod SolvedSides
 pub mod Solving
 pub mod Tidying
 pub mod Pruning
 pub mod Numbering
 pub mod Normal
 pub mod Facts
+pub mod Failures
 pub mod Raw
 pub mod Laws
 pub mod Renamed
 pub mod RenamingLaw
+pub mod Turns
+pub mod VarTables

@@ -63,7 +63,7 @@ pub fn facts(alloc: Global, goal: &Goal) -> Result<List<Lit>, NoMemory>
     ensures { IfOk result (λ ls. ls ≡ facts goal.now) }
 {
     let mut lits = goal.pure_pre.copy(alloc)?.into_vec();
-    let chunks = goal.pre.chunks.as_slice();
+    let chunks = goal.pre.chunks();
     let at_cells = cells(alloc, chunks)?;
     let at_blocks = blocks(alloc, chunks)?;
     add_all_apart(&mut lits, at_cells.as_slice())?;

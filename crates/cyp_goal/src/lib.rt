@@ -2,8 +2,16 @@
 //! of the normal form.
 #![tactic(auto)]
 
+mod draft;
+mod equations;
 mod goal_facts;
 mod laws;
+mod occurs;
+mod solving;
+mod substitution;
+mod tidying;
+mod var_table;
 
+pub use draft::TooLarge;
 pub use goal_facts::facts;
 pub use laws::{normal_of_a_normal_form, normal_under_new_logical_names, normal_under_new_names};

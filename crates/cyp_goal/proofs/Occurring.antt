@@ -1,0 +1,42 @@
+-- Variables are added in several parts.
+use Rattle.std.proofs.Common.{◌≡◌, ◌∙◌, ◌||◌, [], ◌∷◌, ◌++◌, ℕ, ◌+◌, ◌<◌, Bool, List, length, drop, get_or, refl, sym, ap, ap₂}
+use Rattle.std.specs.List.{flat_map, list_any}
+use Rattle.std.proofs.lemmas.List.Folds.{list_any-append}
+use Rattle.cyp_goal.proofs.Loops.{rest_step}
+use Rattle.cyp_term.proofs.Repeats.{with_all_new_append}
+use Rattle.cyp_term.specs.Terms.{set_vars, term_vars, var_eq, var_in, with_all_new}
+use Rattle.cyp_term.specs.declared.lit.SetTerm.{SetTerm}
+use Rattle.cyp_term.specs.declared.term.Term.{Term}
+use Rattle.cyp_term.specs.declared.term.Var.{Var}
+
+-- two parts
+pub added_two : (old mid new xs ys : List Var) → mid ≡ with_all_new var_eq old xs → new ≡ with_all_new var_eq mid ys → new ≡ with_all_new var_eq old (xs ++ ys)
+added_two old mid new xs ys e f = f ∙ ap (λ vs. with_all_new var_eq vs ys) e ∙ sym (with_all_new_append var_eq old xs ys)
+
+pub met_two : (vs xs ys : List Var) (a b : Bool) → a ≡ list_any (λ v. var_in v vs) xs → b ≡ list_any (λ v. var_in v vs) ys → (a || b) ≡ list_any (λ v. var_in v vs) (xs ++ ys)
+met_two vs xs ys a b e f = ap₂ (λ x y. x || y) e f ∙ sym (list_any-append (λ v. var_in v vs) xs ys)
+
+-- one more item
+pub added_item : {X : Type 0} (f : X → List Var) (xs : List X) (i : ℕ) (x : X) (old new r : List Var) → with_all_new var_eq old (flat_map f (drop i xs)) ≡ r → i < length xs → x ≡ get_or xs i x
+    → new ≡ with_all_new var_eq old (f x) → with_all_new var_eq new (flat_map f (drop (i + 1) xs)) ≡ r
+added_item f xs i x old new r h lt is e =
+    rest_step (λ (s : List Var) ys. with_all_new var_eq s (flat_map f ys)) xs i r old new x h lt is
+    (λ ys. with_all_new_append var_eq old (f x) (flat_map f ys) ∙ ap (λ vs. with_all_new var_eq vs (flat_map f ys)) (sym e))
+
+-- each variable of a list is a list of one
+abbrev pub alone : Var → List Var
+alone v = v ∷ []
+
+pub flat_alone : (vs : List Var) → flat_map alone vs ≡ vs
+flat_alone [] = refl
+flat_alone (v ∷ vs) = ap (λ ws. v ∷ ws) (flat_alone vs)
+
+-- the variables of a set term are those of its union and those of its elements
+pub set_parts_vars : (u : SetTerm) → flat_map alone u.vars ++ flat_map term_vars u.elems ≡ set_vars u
+set_parts_vars u = ap (λ vs. vs ++ flat_map term_vars u.elems) (flat_alone u.vars)
+
+pub set_met : (vs : List Var) (u : SetTerm) (ws : List Var) (ts : List Term) (a b : Bool) → ws ≡ u.vars → ts ≡ u.elems → a ≡ list_any (λ v. var_in v vs) (flat_map alone ws)
+    → b ≡ list_any (λ v. var_in v vs) (flat_map term_vars ts) → (a || b) ≡ list_any (λ v. var_in v vs) (set_vars u)
+set_met vs u ws ts a b d e f g =
+    met_two vs (flat_map alone u.vars) (flat_map term_vars u.elems) a b (f ∙ ap (λ zs. list_any (λ v. var_in v vs) (flat_map alone zs)) d) (g ∙ ap (λ zs. list_any (λ v. var_in v vs) (flat_map term_vars zs)) e)
+    ∙ ap (list_any (λ v. var_in v vs)) (set_parts_vars u)

@@ -1,0 +1,6 @@
+use Rattle.std.proofs.Common.{◌≡◌, ◌-◌, length}
+use Rattle.cyp_goal.specs.Solving.{solve_pre}
+use Rattle.cyp_goal.proofs.solving.solve_pre.Given as goal
+
+abbrev pub invariant-loop-turn : goal.invariant-loop-turn
+invariant-loop-turn l = solve_pre (length l.fn.draft.goal.pure_pre - l._turn) l.draft ≡ solve_pre (length l.fn.draft.goal.pure_pre) l.fn.draft

@@ -1,0 +1,11 @@
+-- What one turn of solving leaves.
+use Rattle.std.specs.Prelude.{◌≡◌, Err, None, Ok, Option, Result, suc, ℕ}
+use Rattle.cyp_heap.specs.declared.goal.Node.{Node}
+use Rattle.cyp_term.specs.declared.fail.Fail.{Fail}
+use Rattle.cyp_term.specs.declared.fail.Fail.TheVariants.{Named, NoMemory}
+
+-- what is left is solved in as many turns less one, or the node can't be solved, whatever the number of turns
+abbrev pub Turned : {E : Type 0} → (ℕ → Node → Option Node) → Node → Result Node (Fail E) → Type 0
+Turned solve n (Ok m) = (k : ℕ) → solve (suc k) n ≡ solve k m
+Turned solve n (Err (Named e)) = (k : ℕ) → solve (suc k) n ≡ None
+Turned solve n (Err NoMemory) = Unit {0}
