@@ -50,6 +50,7 @@ rank_behind k (u ∷ us) v h =
     first : (a b : Bool) → (a || b) ≡ false → a ≡ false
     first false b e = refl
     first true b e = e
+
     second : (a b : Bool) → (a || b) ≡ false → b ≡ false
     second false b e = e
     second true b e = absurd (both_ways true e refl)
@@ -67,6 +68,7 @@ rank_below k (u ∷ us) v h =
   where
     at_first : (n m k o l : ℕ) → l ≡ o + n → o ≡ 1 → m ≡ k → m < k + l
     at_first n m k o l f e h = omega arith
+
     less_more : (b : Bool) (k n m r l : ℕ) → l ≡ cond b 1 0 + n → m ≡ r → r < cond b (suc k) k + n → m < k + l
     less_more true k n m r l f e h = omega arith
     less_more false k n m r l f e h = omega arith
@@ -95,6 +97,7 @@ slot_cases vs v w new false c apart is = behind c is
         same : (a b : Bool) → b ≡ false → (a || (b || false)) ≡ a
         same true b e = refl
         same false b e = rw e refl
+
     behind : (c : Bool) → var_in w vs ≡ c → slot (vs ++ v ∷ []) w ≡ cond c (suc (rank_in vs w)) 0
     behind true is = cond-true (var_in w (vs ++ v ∷ [])) (suc (rank_in (vs ++ v ∷ []) w)) 0 (in_longer ∙ is) ∙ ap suc (rank_longer 0 vs (v ∷ []) w is)
     behind false is = cond-false (var_in w (vs ++ v ∷ [])) (suc (rank_in (vs ++ v ∷ []) w)) 0 (in_longer ∙ is)
@@ -178,6 +181,7 @@ module _ (vs : List Var) (s : Sort) (slots : List ℕ) (filled : ℕ) (is : IsPl
               ap (λ k. get_or (set slots v.number (filled + 1)) k 0) e ∙ get_or-set_same slots v.number (filled + 1) 0 within ∙ ap (λ k. k + 1) is.many ∙ add-one (number_of_sort vs s)
               ∙ ap (λ z. suc (number_of_sort vs z)) (sym same)
               ∙ sym (slot_push vs v (var n) new ∙ cond-true (var_eq v (var n)) (suc (number_of_sort vs v.sort)) (slot vs (var n)) ((Decides-var_eq v (var n)).1 (λ i. record { sort = same i; number = sym e i })))
+
           other : (n : ℕ) → n < 256 → (n ≡ v.number → ⊥) → get_or (set slots v.number (filled + 1)) n 0 ≡ slot (vs ++ v ∷ []) (var n)
           other n lt ne =
               get_or-set_other slots v.number n (filled + 1) 0 ne ∙ is.places n lt
@@ -219,10 +223,13 @@ module _ (order : List Var) (len : ℕ) (ints : List ℕ) (i : ℕ) (cards : Lis
       where
         ints_most : i ≤ 256
         ints_most = most_filled (take len order) Int ints i is.int_places
+
         cards_most : c ≤ 256
         cards_most = most_filled (take len order) Card cards c is.card_places
+
         sets_most : s ≤ 256
         sets_most = most_filled (take len order) Set sets s is.set_places
+
         by_sort : (z : Sort) → v.sort ≡ z → len < 768
         by_sort Int e = omega (arith, int_room e, ints_most, cards_most, sets_most, is.total)
         by_sort Card e = omega (arith, card_room e, ints_most, cards_most, sets_most, is.total)

@@ -136,7 +136,9 @@ fn solve_set(alloc: Global, s: &SetTerm, t: SetTerm) -> Result<Subst, NoMemory>
     ensures gives { IfOk result (λ by. set_answer s.now t ≡ Some by) }
     ensures narrow { IfOk result (λ by. wide_subst by ≡ false) }
 {
-    let ([var], []) = (s.vars(), s.elems()) else { unreachable!() };
+    let ([var], []) = (s.vars(), s.elems()) else {
+        unreachable!()
+    };
     narrow(&t);
     let sets = vec![in alloc; SetBind { var: *var, to: t }]?;
     Ok(Subst {

@@ -27,7 +27,12 @@ fn first_in_post(draft: &Draft) -> Option<(usize, Side)>
     unknowns.first(goal.pure_post.as_slice())
 }
 
-fn turn_pre(alloc: Global, mut draft: Draft, place: usize, side: Side) -> Result<Draft, Fail<TooLarge>>
+fn turn_pre(
+    alloc: Global,
+    mut draft: Draft,
+    place: usize,
+    side: Side,
+) -> Result<Draft, Fail<TooLarge>>
     requires { IsFirst (solved_eq (is_logical draft.goal)) draft.goal.pure_pre place side }
     ensures { Turned solve_pre draft result }
 {
@@ -36,7 +41,12 @@ fn turn_pre(alloc: Global, mut draft: Draft, place: usize, side: Side) -> Result
     draft.substituted(alloc, &by)
 }
 
-fn turn_post(alloc: Global, mut draft: Draft, place: usize, side: Side) -> Result<Draft, Fail<TooLarge>>
+fn turn_post(
+    alloc: Global,
+    mut draft: Draft,
+    place: usize,
+    side: Side,
+) -> Result<Draft, Fail<TooLarge>>
     requires { IsFirst (solved_any (λ v. var_in v draft.goal.exist)) draft.goal.pure_post place side }
     ensures { Turned solve_post draft result }
 {

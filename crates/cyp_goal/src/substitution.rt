@@ -195,9 +195,7 @@ impl Apply for Chunk {
 
     fn stays(&self, by: &Subst) -> bool {
         match self {
-            Chunk::Inst(inst) => {
-                card_stays(inst.card, by) && all_stay(inst.args.as_slice(), by)
-            }
+            Chunk::Inst(inst) => { card_stays(inst.card, by) && all_stay(inst.args.as_slice(), by) }
             Chunk::Block(block) => block.at().stays(by),
             Chunk::Cell(cell) => cell.at.stays(by) && cell.content.stays(by),
         }
@@ -271,7 +269,11 @@ fn apply_link(alloc: Global, link: Link, by: &Subst) -> Result<Link, Fail<TooWid
     })
 }
 
-pub(crate) fn apply_links(alloc: Global, links: List<Link>, by: &Subst) -> Result<List<Link>, Fail<TooWide>>
+pub(crate) fn apply_links(
+    alloc: Global,
+    links: List<Link>,
+    by: &Subst,
+) -> Result<List<Link>, Fail<TooWide>>
     ensures { GivesUnless (list_any wide_link (map (apply_link by.now) links)) (map (apply_link by.now) links) result }
 {
     let mut applied = Vec::with_capacity(alloc, links.len())?;
