@@ -1,3 +1,6 @@
+ghost use Rattle.std.specs.Prelude.{◌≡◌};
+ghost use Rattle.cyp_term.specs.declared.term.Sort.TheVariants.{Set};
+
 use crate::list::List;
 use crate::lit::{Lit, SetTerm};
 use crate::subst::{IntBind, SetBind, Subst};
@@ -46,7 +49,9 @@ fn most_below_y() -> Term {
     Term::new(Some(Y), -WIDEST)
 }
 
-fn set(number: u8) -> Var {
+fn set(number: u8) -> Var
+    ensures { result.sort ≡ Set }
+{
     Var {
         sort: Sort::Set,
         number,
@@ -219,40 +224,56 @@ fn negates_comparisons_of_integers(rt: HostRuntime) {
     assert!(rt; is_negation(Lit::Lt(x(0), y(1)), Lit::Le(y(1), x(0))));
 }
 
-/// The set terms `{1}` and `{2}`.
-fn sides(alloc: Global) -> Result<(SetTerm, SetTerm), Fail> {
-    Ok((
-        elements(alloc, &[number(1)])?,
-        elements(alloc, &[number(2)])?,
-    ))
+fn same(alloc: Global) -> Result<Lit, Fail> {
+    let a = elements(alloc, &[number(1)])?;
+    Ok(Lit::Same(a, elements(alloc, &[number(2)])?))
+}
+
+fn not_same(alloc: Global) -> Result<Lit, Fail> {
+    let a = elements(alloc, &[number(1)])?;
+    Ok(Lit::NotSame(a, elements(alloc, &[number(2)])?))
 }
 
 #[test]
 fn negates_equality_of_sets(rt: HostRuntime) -> Result<(), Fail> {
     let alloc = rt.alloc();
-    let ((a, b), (c, d)) = (sides(alloc)?, sides(alloc)?);
-    assert!(rt; is_negation(Lit::Same(a, b), Lit::NotSame(c, d)));
-    let ((a, b), (c, d)) = (sides(alloc)?, sides(alloc)?);
-    assert!(rt; is_negation(Lit::NotSame(a, b), Lit::Same(c, d)));
+    assert!(rt; is_negation(same(alloc)?, not_same(alloc)?));
+    assert!(rt; is_negation(not_same(alloc)?, same(alloc)?));
     Ok(())
+}
+
+fn sub(alloc: Global) -> Result<Lit, Fail> {
+    let a = elements(alloc, &[number(1)])?;
+    Ok(Lit::Sub(a, elements(alloc, &[number(2)])?))
+}
+
+fn not_sub(alloc: Global) -> Result<Lit, Fail> {
+    let a = elements(alloc, &[number(1)])?;
+    Ok(Lit::NotSub(a, elements(alloc, &[number(2)])?))
 }
 
 #[test]
 fn negates_inclusion(rt: HostRuntime) -> Result<(), Fail> {
     let alloc = rt.alloc();
-    let ((a, b), (c, d)) = (sides(alloc)?, sides(alloc)?);
-    assert!(rt; is_negation(Lit::Sub(a, b), Lit::NotSub(c, d)));
-    let ((a, b), (c, d)) = (sides(alloc)?, sides(alloc)?);
-    assert!(rt; is_negation(Lit::NotSub(a, b), Lit::Sub(c, d)));
+    assert!(rt; is_negation(sub(alloc)?, not_sub(alloc)?));
+    assert!(rt; is_negation(not_sub(alloc)?, sub(alloc)?));
     Ok(())
+}
+
+fn member(alloc: Global) -> Result<Lit, Fail> {
+    let a = elements(alloc, &[number(1)])?;
+    Ok(Lit::Member(x(0), a))
+}
+
+fn not_member(alloc: Global) -> Result<Lit, Fail> {
+    let a = elements(alloc, &[number(1)])?;
+    Ok(Lit::NotMember(x(0), a))
 }
 
 #[test]
 fn negates_membership(rt: HostRuntime) -> Result<(), Fail> {
     let alloc = rt.alloc();
-    let (a, b) = (one_set(alloc, 0, &[])?, one_set(alloc, 0, &[])?);
-    assert!(rt; is_negation(Lit::Member(x(0), a), Lit::NotMember(x(0), b)));
-    let (a, b) = (one_set(alloc, 0, &[])?, one_set(alloc, 0, &[])?);
-    assert!(rt; is_negation(Lit::NotMember(x(0), a), Lit::Member(x(0), b)));
+    assert!(rt; is_negation(member(alloc)?, not_member(alloc)?));
+    assert!(rt; is_negation(not_member(alloc)?, member(alloc)?));
     Ok(())
 }
