@@ -1,0 +1,6 @@
+//! Set literals at given classes of their element terms, decided exactly over regions.
+#![tactic(auto)]
+
+mod dealing;
+mod masks;
+mod region_lists;
