@@ -1,5 +1,5 @@
 -- What a list contains, by recursion and by places.
-use Rattle.std.proofs.Common.{◌≡◌, ℕ, zero, suc, ◌+◌, ◌<◌, Bool, true, List, [], ◌∷◌, length, get_or, filter, refl, sym, inl, inr, arith}
+use Rattle.std.proofs.Common.{◌≡◌, zero, suc, Bool, true, List, [], ◌∷◌, filter, sym, inl, inr, arith}
 use Rattle.std.specs.List.{Contains}
 use Rattle.cyp_term.proofs.Lists.{Among, filter_in, filter_out}
 

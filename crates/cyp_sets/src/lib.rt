@@ -3,4 +3,5 @@
 
 mod dealing;
 mod masks;
+mod names;
 mod region_lists;
