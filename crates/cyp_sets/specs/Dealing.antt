@@ -5,7 +5,7 @@ use Rattle.std.specs.List.{All, Contains, list_all, range_with_len}
 use Rattle.cyp_sets.specs.declared.masks.Mask.{Mask}
 use Rattle.cyp_sets.specs.declared.masks.Rule.{Rule}
 use Rattle.cyp_sets.specs.declared.masks.Want.{Want}
-use Rattle.cyp_sets.specs.Masks.{allows, shows}
+use Rattle.cyp_sets.specs.Masks.{obeys, shows}
 
 -- an integer with this region and these classes
 abbrev pub integer : ℕ → ℕ → Mask
@@ -13,7 +13,7 @@ integer classes region = record { vars = region; classes = classes }
 
 -- the regions below a number that all rules allow an integer of these classes
 abbrev pub allowed_regions : List Rule → ℕ → ℕ → List ℕ
-allowed_regions rules count classes = filter (λ r. list_all (allows (integer classes r)) rules) (range_with_len 0 count)
+allowed_regions rules count classes = filter (λ r. list_all (obeys (integer classes r)) rules) (range_with_len 0 count)
 
 -- an integer of the class at the place, with its region, is what is wanted
 abbrev pub ShownAt : List (List ℕ) → (ℕ → ℕ) → Want → Type 0

@@ -15,11 +15,11 @@ share a b = not (bit_and a b == 0)
 abbrev pub meets : Mask → Mask → Bool
 meets a b = share a.vars b.vars || share a.classes b.classes
 
--- what the rule says of the integer
-abbrev pub allows : Mask → Rule → Bool
-allows x (Same a b) = beq (meets x a) (meets x b)
-allows x (Sub a b) = not (meets x a) || meets x b
-allows x (Apart a b) = not (meets x a) || not (meets x b)
+-- the rule holds of the integer
+abbrev pub obeys : Mask → Rule → Bool
+obeys x (Same a b) = beq (meets x a) (meets x b)
+obeys x (Sub a b) = not (meets x a) || meets x b
+obeys x (Apart a b) = not (meets x a) || not (meets x b)
 
 -- the integer is what is wanted
 abbrev pub shows : Mask → Want → Bool

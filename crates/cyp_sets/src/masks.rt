@@ -1,5 +1,5 @@
 ghost use Rattle.std.specs.Prelude.{◌≡◌};
-ghost use Rattle.cyp_sets.specs.Masks.{allows, meets, shows};
+ghost use Rattle.cyp_sets.specs.Masks.{meets, obeys, shows};
 
 /// Some set variables and some classes of element terms, by the bits of their places. Of an integer these are the variables
 /// that it is in and its class; of a set term its variables and the classes of its elements.
@@ -36,7 +36,7 @@ impl Mask {
 impl Rule {
     /// Whether the rule holds of the integer.
     pub(crate) fn allows(self, at: Mask) -> bool
-        ensures { result ≡ allows at self }
+        ensures { result ≡ obeys at self }
     {
         match self {
             Rule::Same(a, b) => at.meets(a) == at.meets(b),

@@ -3,7 +3,7 @@ ghost use Rattle.std.specs.List.{All, list_any};
 ghost use Rattle.cyp_term.specs.Regions.{term_in};
 ghost use Rattle.cyp_term.specs.Terms.{base_eq, sort_eq, term_eq, var_eq};
 ghost use Rattle.cyp_sets.specs.Masks.{share};
-ghost use Rattle.cyp_sets.specs.Names.{HasPlaces, IsSingle, IsUnion, class_bit, place, var_bit};
+ghost use Rattle.cyp_sets.specs.Names.{HasPlaces, IsSingle, IsUnion, class_bit, class_in, place, var_bit};
 
 use crate::masks::Mask;
 use cyp_term::{SetTerm, Sort, Term, Var};
@@ -83,4 +83,71 @@ fn class_place(classes: &[u8], class: u8) -> usize
         .iter()
         .position(|other| *other == class)
         .unwrap_or(classes.len())
+}
+
+impl Names {
+    fn var_bit(&self, var: Var) -> u16
+        ensures { result ≡ var_bit self.now var }
+    {
+        1 << var_place(self.vars.as_slice(), var)
+    }
+
+    fn class_of(&self, term: &Term) -> u8
+        requires { IsTrue (term_in term.now self.now.terms) }
+        ensures { result ≡ class_in self.now term.now }
+    {
+        self.classes[term_place(self.terms.as_slice(), term)]
+    }
+
+    fn class_bit(&self, term: &Term) -> u8
+        requires { IsTrue (term_in term.now self.now.terms) }
+        ensures { result ≡ class_bit self.now term.now }
+    {
+        1 << class_place(self.kinds.as_slice(), self.class_of(term))
+    }
+
+    /// The bits of the variables.
+    fn vars_mask(&self, vars: &[Var]) -> u16
+        ensures { (m : ℕ) → share m result ≡ list_any (λ v. share m (var_bit self.now v)) vars.now }
+    {
+        let mut mask = 0;
+        for var in vars {
+            mask |= self.var_bit(*var);
+        }
+        mask
+    }
+
+    /// The bits of the terms' classes.
+    fn classes_mask(&self, terms: &[Term]) -> u8
+        requires { All (λ e. IsTrue (term_in e self.now.terms)) terms.now }
+        ensures { (m : ℕ) → share m result ≡ list_any (λ e. share m (class_bit self.now e)) terms.now }
+    {
+        let mut mask = 0;
+        for term in terms {
+            mask |= self.class_bit(term);
+        }
+        mask
+    }
+
+    /// The mask of a set term.
+    pub(crate) fn union_of(&self, set: &SetTerm) -> Mask
+        requires { HasPlaces self.now set.now }
+        ensures { IsUnion self.now set.now result }
+    {
+        Mask {
+            vars: self.vars_mask(set.vars()),
+            classes: self.classes_mask(set.elems()),
+        }
+    }
+
+    /// The mask of the set whose one element is the term.
+    pub(crate) fn single(&self, term: &Term) -> Mask
+        requires { IsTrue (term_in term.now self.now.terms) }
+        ensures { IsSingle self.now term.now result }
+    {
+        Mask {
+            vars: 0,
+            classes: self.class_bit(term),
+        }
+    }
 }

@@ -1,14 +1,14 @@
 ghost use Rattle.std.specs.Prelude.{◌≡◌, IfOk, filter};
 ghost use Rattle.std.specs.List.{list_all};
 ghost use Rattle.cyp_sets.specs.Dealing.{allowed_regions, integer};
-ghost use Rattle.cyp_sets.specs.Masks.{allows, shows};
+ghost use Rattle.cyp_sets.specs.Masks.{obeys, shows};
 
 use crate::masks::{Mask, Rule, Want};
 use cyp_term::{List, NoMemory};
 use std::alloc::Global;
 
 fn is_allowed(rules: &[Rule], at: Mask) -> bool
-    ensures { result ≡ list_all (allows at) rules.now }
+    ensures { result ≡ list_all (obeys at) rules.now }
 {
     rules.iter().all(|rule| rule.allows(at))
 }
