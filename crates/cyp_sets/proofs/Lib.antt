@@ -1,5 +1,7 @@
 pub mod Bits
 pub mod Containing
 pub mod Deals
+pub mod Gathered
 pub mod Places
+pub mod Sayings
 pub mod Unions

@@ -1,3 +1,4 @@
 pub mod Dealing
 pub mod Masks
 pub mod Names
+pub mod Saying

@@ -2,6 +2,8 @@
 #![tactic(auto)]
 
 mod dealing;
+mod gathering;
 mod masks;
 mod names;
 mod region_lists;
+mod said;

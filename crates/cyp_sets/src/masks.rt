@@ -24,6 +24,13 @@ pub(crate) enum Want {
     NotSub(Mask, Mask),
 }
 
+/// What a literal says of each integer, or of some.
+#[derive(Clone, Copy, Debug)]
+pub(crate) enum Saying {
+    OfEach(Rule),
+    OfSome(Want),
+}
+
 impl Mask {
     /// Whether the integer is in the set term.
     pub(crate) fn meets(self, set: Mask) -> bool
