@@ -1,8 +1,7 @@
-ghost use Rattle.std.specs.Prelude.{◌≡◌, ◌==◌, IfOk, OnErr, OnOk, flat_map};
+ghost use Rattle.std.specs.Prelude.{◌≡◌, ◌==◌, ◌++◌, IfOk, OnErr, OnOk, flat_map};
 ghost use Rattle.std.specs.List.{list_any};
 ghost use Rattle.cyp_term.specs.Regions.{all_set_vars, all_terms, elem_terms, lit_set_vars, term_in};
 ghost use Rattle.cyp_term.specs.Terms.{term_eq, var_eq, var_in, with_all_new, with_new, without_repeats};
-ghost use Rattle.cyp_sets.specs.Names.{names_of};
 
 use crate::names::{same_term, same_var};
 use cyp_term::{Lit, NoMemory, Term, Var};
@@ -114,7 +113,7 @@ fn with_lit_terms(terms: Vec<Term>, lit: &Lit) -> Result<Vec<Term>, NoMemory>
 }
 
 /// The variables, and those set variables of the literals that aren't among them yet.
-pub(crate) fn with_all_vars(mut vars: Vec<Var>, lits: &[Lit]) -> Result<Vec<Var>, NoMemory>
+fn with_all_vars(mut vars: Vec<Var>, lits: &[Lit]) -> Result<Vec<Var>, NoMemory>
     ensures { IfOk result (λ vs. vs.items ≡ with_all_new var_eq vars.items (flat_map lit_set_vars lits.now)) }
 {
     for lit in lits {
@@ -124,11 +123,25 @@ pub(crate) fn with_all_vars(mut vars: Vec<Var>, lits: &[Lit]) -> Result<Vec<Var>
 }
 
 /// The terms, and those element terms of the literals that aren't among them yet.
-pub(crate) fn with_all_terms(mut terms: Vec<Term>, lits: &[Lit]) -> Result<Vec<Term>, NoMemory>
+fn with_all_terms(mut terms: Vec<Term>, lits: &[Lit]) -> Result<Vec<Term>, NoMemory>
     ensures { IfOk result (λ ts. ts.items ≡ with_all_new term_eq terms.items (flat_map elem_terms lits.now)) }
 {
     for lit in lits {
         terms = with_lit_terms(terms, lit)?;
     }
     Ok(terms)
+}
+
+/// The set variables of the literals, each once, in order of first occurrence.
+pub(crate) fn vars_of(alloc: Global, lits: &[Lit], more: &[Lit]) -> Result<Vec<Var>, NoMemory>
+    ensures { IfOk result (λ vs. vs.items ≡ all_set_vars (lits.now ++ more.now)) }
+{
+    with_all_vars(with_all_vars(Vec::new(alloc), lits)?, more)
+}
+
+/// The element terms of the literals, each once, in order of first occurrence.
+pub(crate) fn terms_of(alloc: Global, lits: &[Lit], more: &[Lit]) -> Result<Vec<Term>, NoMemory>
+    ensures { IfOk result (λ ts. ts.items ≡ all_terms (lits.now ++ more.now)) }
+{
+    with_all_terms(with_all_terms(Vec::new(alloc), lits)?, more)
 }

@@ -1,12 +1,14 @@
-ghost use Rattle.std.specs.Prelude.{◌≡◌, ℕ, ◌≤◌, ◌^◌, ◌==◌, IsTrue, length};
+ghost use Rattle.std.specs.Prelude.{◌≡◌, ℕ, ◌≤◌, ◌^◌, ◌==◌, ◌++◌, IfOk, IsTrue, length};
 ghost use Rattle.std.specs.List.{All, list_any};
-ghost use Rattle.cyp_term.specs.Regions.{term_in};
+ghost use Rattle.cyp_term.specs.Regions.{all_set_vars, all_terms, term_in};
 ghost use Rattle.cyp_term.specs.Terms.{base_eq, sort_eq, term_eq, var_eq};
 ghost use Rattle.cyp_sets.specs.Masks.{share};
-ghost use Rattle.cyp_sets.specs.Names.{HasPlaces, IsSingle, IsUnion, class_bit, class_in, place, var_bit};
+ghost use Rattle.cyp_sets.specs.Names.{HasPlaces, IsSingle, IsUnion, class_bit, class_in, names_of, place, var_bit};
 
+use crate::gathering::{kinds_of, terms_of, vars_of};
 use crate::masks::Mask;
-use cyp_term::{SetTerm, Sort, Term, Var};
+use cyp_term::{Lit, NoMemory, SetTerm, Sort, Term, Var};
+use std::alloc::Global;
 use std::marker::Model;
 
 /// The set variables and the element terms of literals, each once, with the class of each term, and the classes, each once.
@@ -86,6 +88,26 @@ fn class_place(classes: &[u8], class: u8) -> usize
 }
 
 impl Names {
+    /// The names in the literals of both lists, where the terms have these classes.
+    pub(crate) fn of(
+        alloc: Global,
+        lits: &[Lit],
+        more: &[Lit],
+        classes: &[u8],
+    ) -> Result<Names, NoMemory>
+        requires few_vars { length (all_set_vars (lits.now ++ more.now)) ≤ 12 }
+        requires few_terms { length (all_terms (lits.now ++ more.now)) ≤ 6 }
+        requires classes { length classes.now ≡ length (all_terms (lits.now ++ more.now)) }
+        ensures { IfOk result (λ n. n ≡ names_of (lits.now ++ more.now) classes.now) }
+    {
+        Ok(Names {
+            vars: vars_of(alloc, lits, more)?,
+            terms: terms_of(alloc, lits, more)?,
+            classes: classes.to_vec(alloc)?,
+            kinds: kinds_of(alloc, classes)?,
+        })
+    }
+
     fn var_bit(&self, var: Var) -> u16
         ensures { result ≡ var_bit self.now var }
     {
