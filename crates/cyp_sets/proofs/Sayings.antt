@@ -16,9 +16,9 @@ use Rattle.cyp_sets.specs.declared.masks.Want.{Want}
 use Rattle.cyp_sets.specs.declared.masks.Want.TheVariants.{NotSame, NotSub}
 use Rattle.cyp_sets.specs.declared.masks.Saying.{Saying}
 use Rattle.cyp_sets.specs.declared.masks.Saying.TheVariants.{OfEach, OfSome}
-use Rattle.cyp_sets.specs.Masks.{obeys, shows}
+use Rattle.cyp_sets.specs.Masks.{obeys, shown_by, shows}
 use Rattle.cyp_sets.specs.Names.{IsMaskOf, IsUnion, Named, class_in}
-use Rattle.cyp_sets.specs.Saying.{Adds, AreMasksOf, Says, SaysLit, shown_by}
+use Rattle.cyp_sets.specs.Saying.{Adds, AreMasksOf, Says, SaysLit}
 use Rattle.cyp_sets.proofs.Containing.{Among-from_contains, Contains-from_among}
 
 pub same_tests : (a b : Bool) → (a ≡ true → b ≡ true) → (b ≡ true → a ≡ true) → a ≡ b

@@ -1,6 +1,7 @@
 -- Integers and set terms as masks of classes and of set variables, and what rules and wants say of an integer.
-use Rattle.std.specs.Prelude.{ℕ, Bool, not, ◌&&◌, ◌||◌, ◌==◌, bit_and}
+use Rattle.std.specs.Prelude.{ℕ, Bool, not, ◌&&◌, ◌||◌, ◌==◌, List, bit_and}
 use Rattle.std.specs.Bool.{beq}
+use Rattle.std.specs.List.{list_any}
 use Rattle.cyp_sets.specs.declared.masks.Mask.{Mask}
 use Rattle.cyp_sets.specs.declared.masks.Rule.{Rule}
 use Rattle.cyp_sets.specs.declared.masks.Rule.TheVariants.{Same, Sub, Apart}
@@ -25,3 +26,7 @@ obeys x (Apart a b) = not (meets x a) || not (meets x b)
 abbrev pub shows : Mask → Want → Bool
 shows x (NotSame a b) = not (beq (meets x a) (meets x b))
 shows x (NotSub a b) = meets x a && not (meets x b)
+
+-- one of the integers is what is wanted
+abbrev pub shown_by : List Mask → Want → Bool
+shown_by xs w = list_any (λ x. shows x w) xs

@@ -1,6 +1,6 @@
 -- When rules and wants over masks say what set literals say.
 use Rattle.std.specs.Prelude.{◌≡◌, Bool, true, false, List, [], ◌∷◌, ◌++◌, Contains, IsTrue}
-use Rattle.std.specs.List.{All, list_all, list_any}
+use Rattle.std.specs.List.{All, list_all}
 use Rattle.cyp_term.specs.declared.lit.Lit.{Lit}
 use Rattle.cyp_term.specs.declared.lit.Lit.TheVariants.{Same, NotSame, Member, NotMember, Sub, NotSub}
 use Rattle.cyp_term.specs.Integers.{is_int_lit}
@@ -10,7 +10,7 @@ use Rattle.cyp_sets.specs.declared.masks.Rule.{Rule}
 use Rattle.cyp_sets.specs.declared.masks.Want.{Want}
 use Rattle.cyp_sets.specs.declared.masks.Saying.{Saying}
 use Rattle.cyp_sets.specs.declared.masks.Saying.TheVariants.{OfEach, OfSome}
-use Rattle.cyp_sets.specs.Masks.{obeys, shows}
+use Rattle.cyp_sets.specs.Masks.{obeys, shown_by}
 use Rattle.cyp_sets.specs.Names.{HasPlaces, IsMaskOf, Named, class_in}
 
 -- all set variables and element terms of the literal have places
@@ -27,10 +27,6 @@ LitHasPlaces n _ = Unit {0}
 pub record AreMasksOf (n : Named) (xs : List Spot) (ms : List Mask) : Type 0 where
   pub each : (x : Spot) → Contains xs x → (m : Mask) × Contains ms m × IsMaskOf n x m
   pub only : (m : Mask) → Contains ms m → (x : Spot) × Contains xs x × IsMaskOf n x m
-
--- one of the masks is what is wanted
-abbrev pub shown_by : List Mask → Want → Bool
-shown_by ms w = list_any (λ m. shows m w) ms
 
 -- the literal says of each integer what the rule says of its mask, and wants nothing; or wants what is wanted of some mask,
 -- and says nothing of each

@@ -7,3 +7,6 @@ mod masks;
 mod names;
 mod region_lists;
 mod said;
+mod sets;
+
+pub use sets::{regions, regions_with};

@@ -108,6 +108,21 @@ impl Names {
         })
     }
 
+    /// The number of the regions, which are the numbers below it.
+    pub(crate) fn region_count(&self) -> u16
+        ensures { result ≡ 2 ^ length self.now.vars }
+    {
+        1 << self.vars.len()
+    }
+
+    /// The number of the classes.
+    pub(crate) fn kind_count(&self) -> usize
+        ensures count { result ≡ length self.now.kinds }
+        ensures few { result ≤ 6 }
+    {
+        self.kinds.len()
+    }
+
     fn var_bit(&self, var: Var) -> u16
         ensures { result ≡ var_bit self.now var }
     {

@@ -1,6 +1,6 @@
-ghost use Rattle.std.specs.Prelude.{◌≡◌, IfOk, filter};
+ghost use Rattle.std.specs.Prelude.{◌≡◌, ◌≤◌, IfOk, filter, not};
 ghost use Rattle.std.specs.List.{list_all};
-ghost use Rattle.cyp_sets.specs.Dealing.{allowed_regions, integer};
+ghost use Rattle.cyp_sets.specs.Dealing.{ListsMean, allowed_regions, integer, shown_in};
 ghost use Rattle.cyp_sets.specs.Masks.{obeys, shows};
 
 use crate::masks::{Mask, Rule, Want};
@@ -43,4 +43,49 @@ pub(crate) fn regions_showing(
         .filter(|vars| want.is_shown(Mask { vars: *vars, classes }))
         .collect(alloc)?;
     Ok(List::from_vec(shown))
+}
+
+/// The regions that the rules allow each class, at the classes' places, or `None` where some class has none.
+pub(crate) fn class_regions(
+    alloc: Global,
+    rules: &[Rule],
+    count: u16,
+    classes: usize,
+) -> Result<Option<List<List<u16>>>, NoMemory>
+    requires { classes ≤ 6 }
+    ensures { IfOk result (ListsMean rules.now count classes) }
+{
+    let mut lists = Vec::new(alloc);
+    for place in 0..classes {
+        let regions = regions_of(alloc, rules, count, 1 << place)?;
+        if regions.len() == 0 {
+            return Ok(None);
+        }
+        lists.push(regions)?;
+    }
+    Ok(Some(List::from_vec(lists)))
+}
+
+fn is_shown_in(want: Want, regions: &[u16], classes: u8) -> bool
+    ensures { result ≡ shown_in regions.now classes want }
+{
+    regions
+        .iter()
+        .any(|vars| want.is_shown(Mask { vars: *vars, classes }))
+}
+
+/// What none of the integers outside all classes shows.
+pub(crate) fn wants_left(
+    alloc: Global,
+    wants: &[Want],
+    outside: &[u16],
+) -> Result<List<Want>, NoMemory>
+    ensures { IfOk result (λ ws. ws ≡ filter (λ w. not (shown_in outside.now 0 w)) wants.now) }
+{
+    let left = wants
+        .iter()
+        .copied()
+        .filter(|want| !is_shown_in(*want, outside, 0))
+        .collect(alloc)?;
+    Ok(List::from_vec(left))
 }
