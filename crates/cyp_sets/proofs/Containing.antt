@@ -1,6 +1,7 @@
 -- What a list contains, by recursion and by places.
-use Rattle.std.proofs.Common.{◌≡◌, zero, suc, Bool, true, List, [], ◌∷◌, filter, sym, inl, inr, arith}
-use Rattle.std.specs.List.{Contains}
+use Rattle.std.proofs.Common.{◌≡◌, ℕ, zero, suc, ◌<◌, Bool, true, List, [], ◌∷◌, length, filter, sym, ◌∙◌, zero-add, inl, inr, arith}
+use Rattle.std.proofs.lemmas.List.FromFn.{get_or-range_with_len, length-range_with_len}
+use Rattle.std.specs.List.{Contains, range_with_len}
 use Rattle.cyp_term.proofs.Lists.{Among, filter_in, filter_out}
 
 module _ {X : Type 0} where
@@ -19,3 +20,9 @@ module _ {X : Type 0} where
 
   pub Contains-filter_out : (test : X → Bool) (x : X) (xs : List X) → Contains (filter test xs) x → Contains xs x × (test x ≡ true)
   Contains-filter_out test x xs h = let r = filter_out test x xs (Among-from_contains x (filter test xs) h) in (Contains-from_among x xs r.0, r.1)
+
+pub Contains-range : (n i : ℕ) → i < n → Contains (range_with_len 0 n) i
+Contains-range n i lt = (i, omega (arith, length-range_with_len 0 n), get_or-range_with_len 0 n i i lt ∙ zero-add i)
+
+pub none_filtered : {X : Type 0} (p : X → Bool) (x : X) (xs : List X) → Contains xs x → length (filter p xs) ≡ 0 → p x ≡ true → ⊥
+none_filtered p x xs h z e = let in_filter : Contains (filter p xs) x = Contains-filter_in p x xs h e in omega (arith, z, in_filter.1)

@@ -1,6 +1,6 @@
 -- Regions that rules allow, and regions of all classes that show what is wanted. A region is a number: the bits of the set
 -- variables that an integer is in.
-use Rattle.std.specs.Prelude.{◌≡◌, ◌≢◌, ℕ, ◌<◌, ◌^◌, Bool, List, [], ◌++◌, length, map, filter, slice_index_or, IsTrue, Option, Some, None}
+use Rattle.std.specs.Prelude.{◌≡◌, ◌≢◌, ℕ, ◌<◌, ◌≤◌, ◌^◌, Bool, List, [], ◌++◌, length, map, filter, slice_index_or, IsTrue, Option, Some, None}
 use Rattle.std.specs.List.{All, Contains, list_all, list_any, range_with_len}
 use Rattle.cyp_sets.specs.declared.masks.Mask.{Mask}
 use Rattle.cyp_sets.specs.declared.masks.Rule.{Rule}
@@ -50,11 +50,12 @@ pub record Deals (wants : List Want) (lists : List (List ℕ)) : Type 0 where
   pub listed : (i : ℕ) → i < length lists → Contains (slice_index_or lists i []) (region i)
   pub shown : All (ShownAt lists region) wants
 
--- as `Deals`, where the class at the place shows the first of what is wanted
-pub record DealsTo (place : ℕ) (want : Want) (rest : List Want) (lists : List (List ℕ)) : Type 0 where
-  pub deals : Deals rest lists
-  pub here : IsTrue (shows (integer (2 ^ place) (deals.region place)) want)
+-- in how many classes some region of the list shows what is wanted
+abbrev pub ways_to_show : Want → List (List ℕ) → ℕ
+ways_to_show w lists = length (filter (λ i. shown_in (slice_index_or lists i []) (2 ^ i) w) (range_with_len 0 (length lists)))
 
--- some class has no region that doesn't show what is wanted
-abbrev pub IsShownAnyway : Want → List (List ℕ) → Type 0
-IsShownAnyway w lists = (i : ℕ) × (i < length lists) × All (λ r. IsTrue (shows (integer (2 ^ i) r) w)) (slice_index_or lists i [])
+-- as `Deals`, where some class from the place on shows a further want
+pub record DealsFrom (place : ℕ) (want : Want) (rest : List Want) (lists : List (List ℕ)) : Type 0 where
+  pub deals : Deals rest lists
+  pub shows_at : ShownAt lists deals.region want
+  pub from : place ≤ shows_at.0

@@ -1,37 +1,79 @@
-ghost use Rattle.std.specs.Prelude.{◌≡◌, [], ◌<◌, ◌≤◌, ◌≢◌, ◌↔◌, ◌^◌, IfOk, IsTrue, length, slice_index_or};
-ghost use Rattle.std.specs.List.{All, list_all, list_any};
-ghost use Rattle.cyp_sets.specs.Dealing.{Deals, DealsTo, IsShownAnyway, integer};
-ghost use Rattle.cyp_sets.specs.Masks.{shows};
+ghost use Rattle.std.specs.Prelude.{◌≡◌, ◌≢◌, [], ◌+◌, ◌^◌, ◌<◌, ◌≤◌, ◌↔◌, IfOk, IsTrue, length, slice_index_or, slice_set};
+ghost use Rattle.std.specs.List.{All};
+ghost use Rattle.cyp_sets.specs.Dealing.{Deals, DealsFrom, shown_in, ways_to_show};
 
-use crate::masks::{Mask, Want};
-use crate::region_lists::regions_showing;
+use crate::masks::Want;
+use crate::region_lists::{is_shown_in, regions_with, regions_without};
 use cyp_term::{List, NoMemory};
 use std::alloc::Global;
 
-fn all_show(want: Want, regions: &[u16], classes: u8) -> bool
-    ensures { result ≡ list_all (λ r. shows (integer classes r) want) regions.now }
+/// Whether the class at the place shows what is wanted with some region of its list.
+fn is_shown_at(want: Want, lists: &[List<u16>], place: usize) -> bool
+    requires few { length lists.now ≤ 6 }
+    requires place { place < length lists.now }
+    ensures { result ≡ shown_in (slice_index_or lists.now place []) (2 ^ place) want }
 {
-    regions.iter().all(|vars| want.is_shown(Mask { vars: *vars, classes }))
+    is_shown_in(want, lists[place].as_slice(), 1 << place)
 }
 
-/// Whether the class at some place has no other region than what shows the want.
-fn is_shown_anyway(want: Want, lists: &List<List<u16>>) -> bool
-    requires few { length lists.now ≤ 6 }
-    ensures { IsTrue result → IsShownAnyway want lists.now }
+/// In how many classes some region of the list shows what is wanted.
+fn ways_to_show(want: Want, lists: &[List<u16>]) -> usize
+    requires { length lists.now ≤ 6 }
+    ensures { result ≡ ways_to_show want lists.now }
 {
-    for place in 0..lists.len() {
-        if all_show(want, lists.as_slice()[place].as_slice(), 1 << place) {
-            return true;
+    (0..lists.len())
+        .filter(|place| is_shown_at(want, lists, *place))
+        .count()
+}
+
+/// The place of a want that the fewest classes can show.
+fn hardest(wants: &[Want], lists: &[List<u16>]) -> usize
+    requires few { length lists.now ≤ 6 }
+    requires some { 0 < length wants.now }
+    ensures { result < length wants.now }
+{
+    let mut best = 0;
+    let mut fewest = ways_to_show(wants[0], lists);
+    for place in 1..wants.len() {
+        let ways = ways_to_show(wants[place], lists);
+        if ways < fewest {
+            best = place;
+            fewest = ways;
         }
     }
-    false
+    best
 }
 
-/// Whether the class at the place can show the want, and the rest be dealt then.
+/// As `deal`, with these regions for the class at the place.
 #[cycle(deal)]
-fn deal_to(
+fn deal_with(
     alloc: Global,
     place: usize,
+    regions: List<u16>,
+    wants: &[Want],
+    lists: &mut List<List<u16>>,
+) -> Result<bool, NoMemory>
+    requires few { length lists.old ≤ 6 }
+    requires place { place < length lists.old }
+    requires listed { All (λ rs. rs ≢ []) lists.old }
+    ensures same { lists.new ≡ lists.old }
+    ensures deals { IfOk result (λ b. IsTrue b ↔ Deals wants.now (slice_set lists.old place regions)) }
+{
+    if regions.len() == 0 {
+        return Ok(false);
+    }
+    let all = lists.set(place, regions);
+    let dealt = deal(alloc, wants, lists);
+    let _regions = lists.set(place, all);
+    dealt
+}
+
+/// As `deal_from` at the next place, with these regions for the class at the place.
+#[cycle(deal)]
+fn deal_past(
+    alloc: Global,
+    place: usize,
+    regions: List<u16>,
     want: Want,
     rest: &[Want],
     lists: &mut List<List<u16>>,
@@ -40,16 +82,43 @@ fn deal_to(
     requires place { place < length lists.old }
     requires listed { All (λ rs. rs ≢ []) lists.old }
     ensures same { lists.new ≡ lists.old }
-    ensures deals { IfOk result (λ b. IsTrue b ↔ DealsTo place want rest.now lists.old) }
+    ensures deals { IfOk result (λ b. IsTrue b ↔ DealsFrom (place + 1) want rest.now (slice_set lists.old place regions)) }
 {
-    let kept = regions_showing(alloc, want, lists.as_slice()[place].as_slice(), 1 << place)?;
-    if kept.len() == 0 {
+    if regions.len() == 0 {
         return Ok(false);
     }
-    let all = lists.set(place, kept);
-    let dealt = deal(alloc, rest, lists);
-    let _kept = lists.set(place, all);
+    let all = lists.set(place, regions);
+    let dealt = deal_from(alloc, place + 1, want, rest, lists);
+    let _regions = lists.set(place, all);
     dealt
+}
+
+/// Whether regions from the lists show all that is wanted, one of the wants by a class from the place on. The class at the
+/// place shows it, or else it has only regions that don't.
+#[cycle(deal)]
+fn deal_from(
+    alloc: Global,
+    place: usize,
+    want: Want,
+    rest: &[Want],
+    lists: &mut List<List<u16>>,
+) -> Result<bool, NoMemory>
+    requires few { length lists.old ≤ 6 }
+    requires place { place ≤ length lists.old }
+    requires listed { All (λ rs. rs ≢ []) lists.old }
+    ensures same { lists.new ≡ lists.old }
+    ensures deals { IfOk result (λ b. IsTrue b ↔ DealsFrom place want rest.now lists.old) }
+{
+    if place == lists.len() {
+        return Ok(false);
+    }
+    let regions = lists.as_slice()[place].as_slice();
+    let shown = regions_with(alloc, want, regions, 1 << place)?;
+    let others = regions_without(alloc, want, regions, 1 << place)?;
+    if deal_with(alloc, place, shown, rest, lists)? {
+        return Ok(true);
+    }
+    deal_past(alloc, place, others, want, rest, lists)
 }
 
 /// Whether regions from the lists, one for each class, show all that is wanted.
@@ -64,16 +133,14 @@ pub(crate) fn deal(
     ensures same { lists.new ≡ lists.old }
     ensures deals { IfOk result (λ b. IsTrue b ↔ Deals wants.now lists.old) }
 {
-    let [want, rest @ ..] = wants else {
+    if wants.is_empty() {
         return Ok(true);
-    };
-    if is_shown_anyway(*want, lists) {
-        return deal(alloc, rest, lists);
     }
-    for place in 0..lists.len() {
-        if deal_to(alloc, place, *want, rest, lists)? {
-            return Ok(true);
-        }
+    let place = hardest(wants, lists.as_slice());
+    if ways_to_show(wants[place], lists.as_slice()) == 0 {
+        return Ok(false);
     }
-    Ok(false)
+    let mut rest = Vec::from_slice(alloc, wants)?;
+    let want = rest.remove(place);
+    deal_from(alloc, 0, want, rest.as_slice(), lists)
 }

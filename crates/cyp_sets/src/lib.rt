@@ -10,3 +10,6 @@ mod said;
 mod sets;
 
 pub use sets::{regions, regions_with};
+
+#[cfg(test)]
+mod tests;

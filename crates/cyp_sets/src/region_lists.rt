@@ -29,7 +29,7 @@ pub(crate) fn regions_of(
 }
 
 /// Those of the regions in which an integer of these classes is what is wanted.
-pub(crate) fn regions_showing(
+pub(crate) fn regions_with(
     alloc: Global,
     want: Want,
     regions: &[u16],
@@ -43,6 +43,23 @@ pub(crate) fn regions_showing(
         .filter(|vars| want.is_shown(Mask { vars: *vars, classes }))
         .collect(alloc)?;
     Ok(List::from_vec(shown))
+}
+
+/// Those of the regions in which an integer of these classes isn't what is wanted.
+pub(crate) fn regions_without(
+    alloc: Global,
+    want: Want,
+    regions: &[u16],
+    classes: u8,
+) -> Result<List<u16>, NoMemory>
+    ensures { IfOk result (λ rs. rs ≡ filter (λ r. not (shows (integer classes r) want)) regions.now) }
+{
+    let others = regions
+        .iter()
+        .copied()
+        .filter(|vars| !want.is_shown(Mask { vars: *vars, classes }))
+        .collect(alloc)?;
+    Ok(List::from_vec(others))
 }
 
 /// The regions that the rules allow each class, at the classes' places, or `None` where some class has none.
@@ -66,7 +83,8 @@ pub(crate) fn class_regions(
     Ok(Some(List::from_vec(lists)))
 }
 
-fn is_shown_in(want: Want, regions: &[u16], classes: u8) -> bool
+/// Whether an integer of these classes is what is wanted in some of the regions.
+pub(crate) fn is_shown_in(want: Want, regions: &[u16], classes: u8) -> bool
     ensures { result ≡ shown_in regions.now classes want }
 {
     regions
