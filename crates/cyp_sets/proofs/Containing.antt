@@ -1,7 +1,8 @@
 -- What a list contains, by recursion and by places.
-use Rattle.std.proofs.Common.{◌≡◌, ℕ, zero, suc, ◌<◌, Bool, true, List, [], ◌∷◌, length, filter, sym, ◌∙◌, zero-add, inl, inr, arith}
+use Rattle.std.proofs.Common.{◌≡◌, ℕ, zero, suc, ◌<◌, Bool, true, List, [], ◌∷◌, length, get_or, filter, sym, ◌∙◌, zero-add, inl, inr, arith}
 use Rattle.std.proofs.lemmas.List.FromFn.{get_or-range_with_len, length-range_with_len}
-use Rattle.std.specs.List.{Contains, range_with_len}
+use Rattle.std.proofs.lemmas.List.Elements.{All-contains, Contains-get_or}
+use Rattle.std.specs.List.{All, Contains, range_with_len}
 use Rattle.cyp_term.proofs.Lists.{Among, filter_in, filter_out}
 
 module _ {X : Type 0} where
@@ -26,3 +27,19 @@ Contains-range n i lt = (i, omega (arith, length-range_with_len 0 n), get_or-ran
 
 pub none_filtered : {X : Type 0} (p : X → Bool) (x : X) (xs : List X) → Contains xs x → length (filter p xs) ≡ 0 → p x ≡ true → ⊥
 none_filtered p x xs h z e = let in_filter : Contains (filter p xs) x = Contains-filter_in p x xs h e in omega (arith, z, in_filter.1)
+
+pub Among-range : (n i : ℕ) → i < n → Among i (range_with_len 0 n)
+Among-range n i lt = Among-from_contains i (range_with_len 0 n) (Contains-range n i lt)
+
+pub range_lt : (n i : ℕ) → Among i (range_with_len 0 n) → i < n
+range_lt n i h =
+    let c : Contains (range_with_len 0 n) i = Contains-from_among i (range_with_len 0 n) h in
+    let k : c.0 < n = omega (arith, c.1, length-range_with_len 0 n) in
+    omega (arith, c.2, get_or-range_with_len 0 n c.0 i k)
+
+module _ {X : Type 0} (P : X → Type 0) where
+  pub All-among : (xs : List X) (x : X) → All P xs → Among x xs → P x
+  All-among xs x h i = All-contains P xs x h (Contains-from_among x xs i)
+
+  pub All-from_among : (xs : List X) → ((x : X) → Among x xs → P x) → All P xs
+  All-from_among xs h = λ k d lt. h (get_or xs k d) (Among-from_contains (get_or xs k d) xs (Contains-get_or xs k d lt))
