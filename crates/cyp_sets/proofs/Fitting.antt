@@ -1,16 +1,15 @@
 -- What is left to deal where the integers outside all classes show some of what is wanted.
-use Rattle.std.proofs.Common.{◌≡◌, ◌↔◌, ℕ, ◌+◌, ◌^◌, ◌<◌, Bool, true, false, not, ◌||◌, List, [], ◌∷◌, ◌++◌, length, get_or, map, filter, refl, sym, ap, subst, ◌∙◌, inl, inr, IsTrue, arith}
-use Rattle.std.proofs.lemmas.Bool.{both_ways, cases_Bool, not-true, not_from_false, or_cases, or_left, or_right}
-use Rattle.std.proofs.lemmas.List.Elements.{All-contains}
+use Rattle.std.proofs.Common.{◌≡◌, ℕ, ◌^◌, ◌<◌, Bool, true, false, not, ◌||◌, List, [], length, map, filter, refl, sym, ap, subst, ◌∙◌, inl, inr, arith}
+use Rattle.std.proofs.lemmas.Bool.{both_ways, not-true, not_from_false, or_cases, or_left, or_right}
 use Rattle.std.proofs.lemmas.List.Folds.{list_any-append}
-use Rattle.std.specs.List.{All, Contains, list_all, list_any, range_with_len}
+use Rattle.std.specs.List.{Contains, range_with_len}
 use Rattle.cyp_term.proofs.Lists.{Among, Among-map, each_at, each_from, filter_in, filter_out, map_from, some_from, some_out}
 use Rattle.cyp_sets.specs.declared.masks.Mask.{Mask}
 use Rattle.cyp_sets.specs.declared.masks.Rule.{Rule}
 use Rattle.cyp_sets.specs.declared.masks.Want.{Want}
 use Rattle.cyp_sets.specs.Masks.{shown_by, shows}
 use Rattle.cyp_sets.specs.Dealing.{AreRegions, Deals, Fits, ShownAt, allowed_regions, integer, integers, shown_in}
-use Rattle.cyp_sets.proofs.Containing.{All-from_among, All-among, Among-from_contains, Among-range, Contains-from_among, range_lt}
+use Rattle.cyp_sets.proofs.Containing.{All-from_among, All-among, Among-range, range_lt}
 
 -- ---- who shows a want
 

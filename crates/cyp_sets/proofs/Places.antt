@@ -15,7 +15,7 @@ use Rattle.cyp_term.proofs.Equality.{Decides-term_eq}
 use Rattle.cyp_sets.specs.Names.{IsFew, Named, class_in, place}
 
 -- the place of the first that equals, by recursion
-abbrev first_place : {X : Type 0} → (X → X → Bool) → List X → X → ℕ
+abbrev pub first_place : {X : Type 0} → (X → X → Bool) → List X → X → ℕ
 first_place eq [] x = 0
 first_place eq (y ∷ ys) x = cond (eq y x) 0 (suc (first_place eq ys x))
 

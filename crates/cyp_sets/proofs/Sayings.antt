@@ -31,13 +31,13 @@ pub some_alike : (n : Named) (xs : List Spot) (ms : List Mask) (p : Spot → Boo
 some_alike n xs ms p q are h =
     same_tests (list_any p xs) (list_any q ms)
     (λ e.
-        let r = some_out p xs e in
-        let m = are.each r.0 (Contains-from_among r.0 xs r.1) in
-        some_from q m.0 ms (Among-from_contains m.0 ms m.1) (sym (h r.0 m.0 m.2) ∙ r.2))
+    let r = some_out p xs e in
+    let m = are.each r.0 (Contains-from_among r.0 xs r.1) in
+    some_from q m.0 ms (Among-from_contains m.0 ms m.1) (sym (h r.0 m.0 m.2) ∙ r.2))
     (λ e.
-        let r = some_out q ms e in
-        let x = are.only r.0 (Contains-from_among r.0 ms r.1) in
-        some_from p x.0 xs (Among-from_contains x.0 xs x.1) (h x.0 r.0 x.2 ∙ r.2))
+    let r = some_out q ms e in
+    let x = are.only r.0 (Contains-from_among r.0 ms r.1) in
+    some_from p x.0 xs (Among-from_contains x.0 xs x.1) (h x.0 r.0 x.2 ∙ r.2))
 
 -- ---- one literal more
 

@@ -23,7 +23,13 @@ pub(crate) fn regions_of(
     ensures { IfOk result (λ rs. rs ≡ allowed_regions rules.now count classes) }
 {
     let regions = (0..count)
-        .filter(|vars| is_allowed(rules, Mask { vars: *vars, classes }))
+        .filter(|vars| is_allowed(
+            rules,
+            Mask {
+                vars: *vars,
+                classes,
+            },
+        ))
         .collect(alloc)?;
     Ok(List::from_vec(regions))
 }
@@ -40,7 +46,10 @@ pub(crate) fn regions_with(
     let shown = regions
         .iter()
         .copied()
-        .filter(|vars| want.is_shown(Mask { vars: *vars, classes }))
+        .filter(|vars| want.is_shown(Mask {
+            vars: *vars,
+            classes,
+        }))
         .collect(alloc)?;
     Ok(List::from_vec(shown))
 }
@@ -57,7 +66,10 @@ pub(crate) fn regions_without(
     let others = regions
         .iter()
         .copied()
-        .filter(|vars| !want.is_shown(Mask { vars: *vars, classes }))
+        .filter(|vars| !want.is_shown(Mask {
+            vars: *vars,
+            classes,
+        }))
         .collect(alloc)?;
     Ok(List::from_vec(others))
 }
@@ -87,9 +99,10 @@ pub(crate) fn class_regions(
 pub(crate) fn is_shown_in(want: Want, regions: &[u16], classes: u8) -> bool
     ensures { result ≡ shown_in regions.now classes want }
 {
-    regions
-        .iter()
-        .any(|vars| want.is_shown(Mask { vars: *vars, classes }))
+    regions.iter().any(|vars| want.is_shown(Mask {
+        vars: *vars,
+        classes,
+    }))
 }
 
 /// What none of the integers outside all classes shows.

@@ -61,10 +61,7 @@ fn set(alloc: Global, number: u8) -> Result<SetTerm, Fail> {
         sort: Sort::Set,
         number,
     })?;
-    Ok(SetTerm::new(
-        List::from_vec(vars),
-        List::from_vec(Vec::new(alloc)),
-    ))
+    Ok(SetTerm::new(List::from_vec(vars), List::from_vec(Vec::new(alloc))))
 }
 
 /// The set of these elements.

@@ -10,5 +10,5 @@ unfolding all_terms
 returns c =
     IfOk-weaker c.with_all_terms-2.result _ _
     (λ v is. is ∙ lits_joined term_eq elem_terms c.args.lits.now c.args.more.now [] c.in_ok-with_all_terms.field-0.items
-        (c.in_ok-with_all_terms.ensures ∙ ap (λ zs. with_all_new term_eq zs (flat_map elem_terms c.args.lits.now)) c.new.ensures.items))
+    (c.in_ok-with_all_terms.ensures ∙ ap (λ zs. with_all_new term_eq zs (flat_map elem_terms c.args.lits.now)) c.new.ensures.items))
     c.with_all_terms-2.ensures

@@ -10,5 +10,5 @@ unfolding all_set_vars
 returns c =
     IfOk-weaker c.with_all_vars-2.result _ _
     (λ v is. is ∙ lits_joined var_eq lit_set_vars c.args.lits.now c.args.more.now [] c.in_ok-with_all_vars.field-0.items
-        (c.in_ok-with_all_vars.ensures ∙ ap (λ zs. with_all_new var_eq zs (flat_map lit_set_vars c.args.lits.now)) c.new.ensures.items))
+    (c.in_ok-with_all_vars.ensures ∙ ap (λ zs. with_all_new var_eq zs (flat_map lit_set_vars c.args.lits.now)) c.new.ensures.items))
     c.with_all_vars-2.ensures
