@@ -1,0 +1,13 @@
+pub mod Agreeing
+pub mod Answered
+pub mod Bits
+pub mod Choices
+pub mod Containing
+pub mod Deals
+pub mod Deciding
+pub mod Fitting
+pub mod Gathered
+pub mod Once
+pub mod Places
+pub mod Sayings
+pub mod Unions

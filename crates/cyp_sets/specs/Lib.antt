@@ -1,0 +1,4 @@
+pub mod Dealing
+pub mod Masks
+pub mod Names
+pub mod Saying
