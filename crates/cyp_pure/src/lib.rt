@@ -1,2 +1,7 @@
-//! Entailment over integers and finite sets together: definitions.
+//! Entailment over integers and finite sets together, decided exactly.
 #![tactic(auto)]
+
+mod limits;
+mod seen;
+
+pub use limits::fits;
