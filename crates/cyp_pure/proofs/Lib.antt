@@ -1,3 +1,4 @@
 pub mod Adding
 pub mod Sides
 pub mod Counts
+pub mod Parting

@@ -2,6 +2,8 @@
 #![tactic(auto)]
 
 mod limits;
+mod parted;
 mod seen;
+mod sorts;
 
 pub use limits::fits;
