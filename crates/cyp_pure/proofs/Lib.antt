@@ -2,3 +2,12 @@ pub mod Adding
 pub mod Sides
 pub mod Counts
 pub mod Parting
+pub mod Fewer
+pub mod Alls
+pub mod Agreeing
+pub mod Saying
+pub mod Tying
+pub mod Ending
+pub mod Choosing
+pub mod Asking
+pub mod Solved
