@@ -23,7 +23,7 @@ zip_right (x ∷ xs) [] p m = absurd m
 zip_right (x ∷ xs) (y ∷ ys) p (inl e) = inl (ap (λ q. q.1) e)
 zip_right (x ∷ xs) (y ∷ ys) p (inr m) = inr (zip_right xs ys p m)
 
-zip_nil : {X Y : Type 0} (xs : List X) → zip {K = X} {X = Y} xs [] ≡ []
+pub zip_nil : {X Y : Type 0} (xs : List X) → zip {K = X} {X = Y} xs [] ≡ []
 zip_nil [] = refl
 zip_nil (x ∷ xs) = refl
 

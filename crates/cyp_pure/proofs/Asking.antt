@@ -13,7 +13,7 @@ use Rattle.cyp_diff.specs.Solving.{AreInts, variables}
 use Rattle.cyp_pure.specs.declared.dealing.Dealing.{Dealing}
 use Rattle.cyp_pure.specs.declared.dealing.Question.{Question}
 use Rattle.cyp_pure.specs.Dealing.{SaysClasses}
-use Rattle.cyp_pure.specs.Questions.{IsAsked, int_side, number_vars, set_side}
+use Rattle.cyp_pure.specs.Questions.{CanBeAsked, IsAsked, int_side, number_vars, set_side}
 use Rattle.cyp_pure.proofs.Fewer.{fewer_without_repeats}
 use Rattle.cyp_pure.proofs.Saying.{among_var, ints_both, lits_vars_cases, lits_vars_left, lits_vars_right, var_among}
 
@@ -39,3 +39,10 @@ module _ (q : Question) (d : Dealing) (asked : IsAsked q) (said : SaysClasses q 
       (λ v m. number_of v (lits_vars_cases v q.ints.now d.facts m)) in
       let few = asked.lits.few_numbers in
       omega (arith, fewer, few)
+
+-- the literals of integers alone
+pub few_ints : (ints sets : List Lit) → CanBeAsked ints sets → length (variables ints) ≤ 32
+few_ints ints sets asked =
+    let fewer = fewer_without_repeats var_eq Decides-var_eq (lits_vars ints) (number_vars ints sets) (λ v m. number_in ints sets v (inl m)) in
+    let few = asked.few_numbers in
+    omega (arith, fewer, few)

@@ -11,3 +11,7 @@ pub mod Ending
 pub mod Choosing
 pub mod Asking
 pub mod Solved
+pub mod Starting
+pub mod Sorted
+pub mod Covering
+pub mod Entailing

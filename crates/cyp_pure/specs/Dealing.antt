@@ -1,5 +1,5 @@
 -- Element terms that are dealt to classes, one after another.
-use Rattle.std.specs.Prelude.{◌≡◌, ◌↔◌, ◌≤◌, ◌<◌, ◌++◌, ◌==◌, ℕ, ℤ, List, if◌then◌else◌, length, map, IsTrue}
+use Rattle.std.specs.Prelude.{◌≡◌, ◌↔◌, ◌≤◌, ◌<◌, ◌++◌, ◌==◌, ℕ, ℤ, List, [], if◌then◌else◌, length, map, IsTrue}
 use Rattle.std.specs.List.{All, AllByRecursion, flat_map, zip}
 use Rattle.cyp_term.specs.declared.lit.Lit.{Lit}
 use Rattle.cyp_term.specs.declared.lit.Lit.TheVariants.{Eq, Ne}
@@ -36,6 +36,12 @@ pub record IsDealt (q : Question) (d : Dealing) : Type 0 where
   pub count : d.count ≤ length d.classes
   pub below : All (λ k. k < d.count) d.classes
   pub facts : SaysClasses q d
+
+-- no term has a class yet, and the facts are these literals
+pub record IsStart (ls : List Lit) (d : Dealing) : Type 0 where
+  pub classes : d.classes ≡ []
+  pub count : d.count ≡ 0
+  pub facts : d.facts ≡ ls
 
 -- integers and sets make all the question's literals true, and give the first terms values of these classes
 abbrev pub CanDeal : Question → List ℕ → Type 0
