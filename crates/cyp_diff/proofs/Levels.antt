@@ -1,17 +1,26 @@
 -- Bounds between places say what comparisons of terms say.
-use Rattle.std.proofs.Common.{◌≡◌, ℕ, zero, suc, ◌+◌, ◌^◌, ◌<◌, ◌≤◌, ℤ, pos, negsuc, neg_ℤ, ◌+ℤ◌, ◌-ℤ◌, ◌≤ℤ◌, ◌<ℤ◌, Bool, true, false, cond, List, [], ◌∷◌, ◌++◌, length, Option, Some, None, FitsSigned, to_z, of_z, w64, refl, sym, ap, ap₂, ◌∙◌, subst, arith}
+use Rattle.std.proofs.Common.{◌≡◌, ℕ, zero, suc, ◌+◌, ◌-◌, ◌^◌, ◌<◌, ◌≤◌, ℤ, pos, negsuc, neg_ℤ, ◌+ℤ◌, ◌-ℤ◌, ◌≤ℤ◌, ◌<ℤ◌, Bool, true, false, cond, List, [], ◌∷◌, ◌++◌, length, Option, Some, None, FitsSigned, to_z, of_z, w64, refl, sym, ap, ap₂, ◌∙◌, subst, arith}
 use Rattle.std.proofs.lemmas.Int.{ints, to_z-of_z}
 use Rattle.std.specs.List.{All}
 use lib.Signed.{mag}
 use Rattle.cyp_term.specs.declared.lit.Lit.TheVariants.{Eq, Ne, Le, Lt}
 use Rattle.cyp_term.specs.declared.term.Term.{Term}
 use Rattle.cyp_term.specs.declared.term.Var.{Var}
+use Rattle.cyp_term.specs.TermValue.{IsTerm}
 use Rattle.cyp_term.specs.Terms.{var_eq}
 use Rattle.cyp_diff.specs.Distances.{Within}
 use Rattle.cyp_diff.specs.Places.{base_place, further, level, var_place}
 use Rattle.cyp_diff.specs.declared.gaps.Gap.{Gap}
 use Rattle.cyp_diff.specs.Gaps.{Apart, IsGap}
-use Rattle.cyp_diff.specs.Systems.{AtMostMeans, EqMeans, GapMeans, IsBit, IsNarrow, LeMeans, LitMeans}
+use Rattle.cyp_diff.specs.Systems.{AtMostMeans, EqMeans, GapMeans, IsBit, LeMeans, LitMeans}
+
+-- at most 2^32 in size
+pub record IsNarrow (z : ℤ) : Type 0 where
+  pub least : negsuc (2 ^ 32 - 1) ≤ℤ z
+  pub most : z ≤ℤ pos (2 ^ 32)
+
+pub narrow : (t : Term) (n : ℤ) → IsTerm t.base n → n ≡ t.offset → IsNarrow t.offset
+narrow t n h e = subst (λ (z : ℤ). IsNarrow z) e (record { least = h.least; most = h.most })
 
 place_by : (b : Bool) (n k : ℕ) → k ≤ n → cond b 1 (further k) ≤ suc n
 place_by true n k h = omega arith

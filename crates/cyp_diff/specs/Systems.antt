@@ -1,5 +1,5 @@
 -- Bounds and gaps that say what literals say.
-use Rattle.std.specs.Prelude.{◌≡◌, ℕ, ℤ, pos, negsuc, ◌^◌, ◌-◌, ◌+ℤ◌, ◌≤ℤ◌, ◌↔◌, Bool, true, false, List, length, ◌+◌, Option, Some, None}
+use Rattle.std.specs.Prelude.{◌≡◌, ℕ, ℤ, pos, ◌+ℤ◌, ◌≤ℤ◌, ◌↔◌, Bool, true, false, List, length, ◌+◌, Option, Some, None}
 use Rattle.std.specs.List.{All}
 use Rattle.cyp_term.specs.declared.lit.Lit.{Lit}
 use Rattle.cyp_term.specs.declared.term.Term.{Term}
@@ -33,11 +33,6 @@ EqMeans vs a b old new false = (x : ℕ → ℤ) → Meets x old → level vs x 
 -- the gap is avoided exactly where the levels aren't equal
 abbrev pub GapMeans : List Var → Term → Term → Gap → Type 0
 GapMeans vs a b g = (x : ℕ → ℤ) → Apart x g ↔ (level vs x a ≡ level vs x b → ⊥)
-
--- at most 2^32 in size
-pub record IsNarrow (z : ℤ) : Type 0 where
-  pub least : negsuc (2 ^ 32 - 1) ≤ℤ z
-  pub most : z ≤ℤ pos (2 ^ 32)
 
 -- true: bounds and gaps say what they said, and the literal; false: no integers meet the bounds and the literal
 abbrev pub LitMeans : List Var → Lit → List (List ℤ) → List Gap → List (List ℤ) → List Gap → Bool → Type 0

@@ -4,15 +4,13 @@ ghost use Rattle.cyp_term.specs.Integers.{is_int_lit};
 ghost use Rattle.cyp_diff.specs.Solving.{AreInts};
 ghost use Rattle.cyp_diff.specs.Distances.{IsSmall};
 ghost use Rattle.cyp_diff.specs.Gaps.{IsGap};
-ghost use Rattle.cyp_diff.specs.Systems.{AtMostMeans, EqMeans, GapMeans, IsBit, IsNarrow, LeMeans, LitMeans, SystemMeans};
+ghost use Rattle.cyp_diff.specs.Systems.{AtMostMeans, EqMeans, GapMeans, IsBit, LeMeans, LitMeans, SystemMeans};
 
 use crate::bounds::{Adding, Bounds};
 use crate::gaps::{Gap, separate};
 use crate::places::place;
 use cyp_term::{List, Lit, NoMemory, Term, Var};
 use std::alloc::Global;
-
-const WIDEST: i64 = 1 << 32;
 
 fn at_most(bounds: &mut Bounds, i: u8, j: u8, c: i64) -> bool
     requires first { i < length bounds.old }
@@ -31,8 +29,6 @@ fn add_le(bounds: &mut Bounds, vars: &[Var], a: &Term, b: &Term, less: i64) -> b
     requires few { length vars.now ≤ 32 }
     requires places { length bounds.old ≡ length vars.now + 1 }
     requires less { IsBit less }
-    requires left { IsNarrow a.now.offset }
-    requires right { IsNarrow b.now.offset }
     ensures places { length bounds.new ≡ length bounds.old }
     ensures means { LeMeans vars.now a.now b.now less bounds.old bounds.new result }
 {
@@ -43,8 +39,6 @@ fn add_le(bounds: &mut Bounds, vars: &[Var], a: &Term, b: &Term, less: i64) -> b
 fn add_eq(bounds: &mut Bounds, vars: &[Var], a: &Term, b: &Term) -> bool
     requires few { length vars.now ≤ 32 }
     requires places { length bounds.old ≡ length vars.now + 1 }
-    requires left { IsNarrow a.now.offset }
-    requires right { IsNarrow b.now.offset }
     ensures places { length bounds.new ≡ length bounds.old }
     ensures means { EqMeans vars.now a.now b.now bounds.old bounds.new result }
 {
@@ -53,8 +47,6 @@ fn add_eq(bounds: &mut Bounds, vars: &[Var], a: &Term, b: &Term) -> bool
 
 fn gap_of(vars: &[Var], a: &Term, b: &Term) -> Gap
     requires few { length vars.now ≤ 32 }
-    requires left { IsNarrow a.now.offset }
-    requires right { IsNarrow b.now.offset }
     ensures gap { IsGap (length vars.now + 1) result }
     ensures means { GapMeans vars.now a.now b.now result }
 {
@@ -63,17 +55,6 @@ fn gap_of(vars: &[Var], a: &Term, b: &Term) -> Gap
         j: place(vars, b),
         c: b.offset() - a.offset(),
     }
-}
-
-/// A term's offset is at most 2^32 in size, which its type keeps but doesn't tell.
-fn told(term: &Term) -> Result<(), NoMemory>
-    ensures { IfOk result (λ _. IsNarrow term.now.offset) }
-{
-    let offset = term.offset();
-    if offset < -WIDEST || offset > WIDEST {
-        return Err(NoMemory);
-    }
-    Ok(())
 }
 
 fn add_lit(
@@ -89,27 +70,13 @@ fn add_lit(
     ensures { IfOk result (LitMeans vars.now lit.now bounds.old gaps.old.items bounds.new gaps.new.items) }
 {
     match lit {
-        Lit::Eq(a, b) => {
-            told(a)?;
-            told(b)?;
-            Ok(add_eq(bounds, vars, a, b))
-        }
+        Lit::Eq(a, b) => Ok(add_eq(bounds, vars, a, b)),
         Lit::Ne(a, b) => {
-            told(a)?;
-            told(b)?;
             gaps.push(gap_of(vars, a, b))?;
             Ok(true)
         }
-        Lit::Le(a, b) => {
-            told(a)?;
-            told(b)?;
-            Ok(add_le(bounds, vars, a, b, 0))
-        }
-        Lit::Lt(a, b) => {
-            told(a)?;
-            told(b)?;
-            Ok(add_le(bounds, vars, a, b, 1))
-        }
+        Lit::Le(a, b) => Ok(add_le(bounds, vars, a, b, 0)),
+        Lit::Lt(a, b) => Ok(add_le(bounds, vars, a, b, 1)),
         _ => unreachable!(),
     }
 }

@@ -18,5 +18,8 @@ pub mod Regions
 pub mod Arrangements
 pub mod Negation
 pub mod Entailment
+pub mod Turns
+pub mod Images
+pub mod Wide
 pub mod Substitution
 mod Examples

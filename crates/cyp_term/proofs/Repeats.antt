@@ -1,8 +1,9 @@
 -- A list without repeats has the elements of the list.
 use Rattle.std.proofs.Common.{◌≡◌, ◌⊎◌, List, [], ◌∷◌, ◌++◌, Bool, true, false, cond, Decides, refl, inl, inr}
 use Rattle.std.specs.List.{list_any}
+use Rattle.std.proofs.lemmas.Bool.Decides.{same_from_decides}
 use Rattle.cyp_term.specs.Terms.{with_new, with_all_new, without_repeats}
-use Rattle.cyp_term.proofs.Lists.{Among, Among-left, Among-right, Among-cases, Decides-some}
+use Rattle.cyp_term.proofs.Lists.{Among, Among-left, Among-right, Among-cases, Decides-some, some_from, some_out}
 
 module _ {X : Type 0} (eq : X → X → Bool) (decides : (x y : X) → Decides (eq x y) (x ≡ y)) where
   new_old : (x y : X) (xs : List X) → Among x xs → Among x (with_new eq xs y)
@@ -48,3 +49,16 @@ module _ {X : Type 0} (eq : X → X → Bool) (decides : (x y : X) → Decides (
 
   pub without_repeats_out : (x : X) (xs : List X) → Among x (without_repeats eq xs) → Among x xs
   without_repeats_out x xs h = elim (all_new_out x [] xs h) [ inl k ↦ absurd k | inr k ↦ k ]
+
+  -- a test passes at some element of the one exactly where it does at some element of the other
+  pub any_without_repeats : (test : X → Bool) (xs : List X) → list_any test (without_repeats eq xs) ≡ list_any test xs
+  any_without_repeats test xs =
+      same_from_decides (list_any test (without_repeats eq xs)) (list_any test xs) (
+        λ e. let r = some_out test (without_repeats eq xs) e in some_from test r.0 xs (without_repeats_out r.0 xs r.1) r.2,
+        λ e. let r = some_out test xs e in some_from test r.0 (without_repeats eq xs) (without_repeats_in r.0 xs r.1) r.2,
+      ) (λ e. e, λ e. e)
+
+-- one list added after the other
+pub with_all_new_append : {X : Type 0} (eq : X → X → Bool) (xs ys zs : List X) → with_all_new eq xs (ys ++ zs) ≡ with_all_new eq (with_all_new eq xs ys) zs
+with_all_new_append eq xs [] zs = refl
+with_all_new_append eq xs (y ∷ ys) zs = with_all_new_append eq (with_new eq xs y) ys zs

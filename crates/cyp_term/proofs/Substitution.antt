@@ -4,10 +4,11 @@ use Rattle.std.specs.List.{flat_map}
 use Rattle.cyp_term.specs.declared.term.Var.{Var}
 use Rattle.cyp_term.specs.declared.term.Term.{Term}
 use Rattle.cyp_term.specs.declared.lit.SetTerm.{SetTerm}
+use Rattle.cyp_term.specs.declared.lit.Lit.{Lit}
 use Rattle.cyp_term.specs.declared.lit.Lit.TheVariants.{Eq, Ne, Le, Lt, Same, NotSame, Member, NotMember, Sub, NotSub}
 use Rattle.cyp_term.specs.declared.subst.Subst.{Subst}
-use Rattle.cyp_term.specs.Terms.{var_eq, term_eq, int_image, set_image, term_at, term_base, apply_term, image_or_self, apply_set, without_repeats}
-use Rattle.cyp_term.specs.Meaning.{Assignment, int_in, value, set_value, SameMembers, IsSubset, image_value, image_members, under, ApplyLaw}
+use Rattle.cyp_term.specs.Terms.{var_eq, term_eq, int_image, set_image, term_at, term_base, apply_lit, apply_term, image_or_self, apply_set, without_repeats}
+use Rattle.cyp_term.specs.Meaning.{Assignment, int_in, value, set_value, SameMembers, IsSubset, image_value, image_members, under, Truth, ApplyLaw}
 use Rattle.cyp_term.proofs.Tests.{not_iff}
 use Rattle.cyp_term.proofs.Numbers.{plus-plus}
 use Rattle.cyp_term.proofs.Equality.{Decides-var_eq, Decides-term_eq}
@@ -130,6 +131,9 @@ module _ (by : Subst) (s : Assignment) where
   pub set_value-apply_set : (u : SetTerm) → SameMembers (set_value s (apply_set by u)) (set_value (under by s) u)
   set_value-apply_set u = same_members _ _ (value-apply_set u)
 
+  pub value_of_applied : (u w : SetTerm) → w ≡ apply_set by u → SameMembers (set_value s w) (set_value (under by s) u)
+  value_of_applied u w is = subst (λ (v : SetTerm). SameMembers (set_value s v) (set_value (under by s) u)) (sym is) (set_value-apply_set u)
+
 -- ---- literals
 pairs_iff : {X : Type 0} (R : X → X → Type 0) (w x y z : X) → w ≡ y → x ≡ z → R w x ↔ R y z
 pairs_iff R w x y z p q = (λ h. subst₂ R p q h, λ h. subst₂ R (sym p) (sym q) h)
@@ -155,3 +159,6 @@ apply_law by s (Member e b) = member_iff _ _ _ _ (value-apply_term by s e) (set_
 apply_law by s (NotMember e b) = not_iff (member_iff _ _ _ _ (value-apply_term by s e) (set_value-apply_set by s b))
 apply_law by s (Sub a b) = sub_iff _ _ _ _ (set_value-apply_set by s a) (set_value-apply_set by s b)
 apply_law by s (NotSub a b) = not_iff (sub_iff _ _ _ _ (set_value-apply_set by s a) (set_value-apply_set by s b))
+
+pub truth_of_applied : (by : Subst) (l made : Lit) → made ≡ apply_lit by l → (s : Assignment) → Truth s made ↔ Truth (under by s) l
+truth_of_applied by l made is s = subst (λ (m : Lit). Truth s m ↔ Truth (under by s) l) (sym is) (apply_law by s l)

@@ -3,6 +3,7 @@ pub mod Answers
 pub mod Entailment
 pub mod Exactly
 pub mod ExactLits
+pub mod Images
 pub mod Integers
 pub mod Meaning
 pub mod Regions

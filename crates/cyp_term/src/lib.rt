@@ -7,11 +7,14 @@ mod fail;
 mod laws;
 mod list;
 mod lit;
+mod once;
 mod roomy;
 mod shared;
 mod steps;
 mod subst;
 mod term;
+#[cfg(test)]
+mod tests;
 
 pub use copied::{Copied, Exact};
 pub use fail::{Fail, NoMemory};

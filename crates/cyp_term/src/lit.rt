@@ -1,12 +1,18 @@
-ghost use Rattle.std.specs.Prelude.{◌≡◌, ◌↔◌, IfOk};
-ghost use Rattle.cyp_term.specs.Meaning.{Assignment, Truth};
-ghost use Rattle.cyp_term.specs.Terms.{negated};
+ghost use Rattle.std.specs.Prelude.{◌≡◌, ◌↔◌, IfOk, OnOk, false};
+ghost use Rattle.std.specs.List.{list_any};
+ghost use Rattle.cyp_term.specs.Answers.{GivesUnless};
+ghost use Rattle.cyp_term.specs.Images.{image_elems, image_of, image_vars};
+ghost use Rattle.cyp_term.specs.Meaning.{Assignment, SameMembers, Truth, set_value, under};
+ghost use Rattle.cyp_term.specs.Terms.{apply_lit, apply_set, negated, term_eq, var_eq, wide_lit, wide_set, wide_term, with_all_new, without_repeats};
+ghost use Rattle.cyp_term.specs.declared.term.Sort.TheVariants.{Set};
 ghost use Rattle.cyp_term.specs.SetTermValue.{AllSets};
 
 use crate::copied::{Copied, Exact};
-use crate::fail::NoMemory;
+use crate::fail::{Fail, NoMemory};
 use crate::list::List;
-use crate::term::{Term, Var};
+use crate::once::{add_term, add_terms, add_var, add_vars};
+use crate::subst::Subst;
+use crate::term::{Term, TooWide, Var};
 use std::alloc::Global;
 use std::marker::Model;
 
@@ -52,6 +58,79 @@ impl SetTerm {
     {
         self.elems.as_slice()
     }
+
+    /// The set term with its variables and elements replaced by their images, each part once: first
+    /// what the variables' images bring, then the elements' images. It is `TooWide` exactly where an
+    /// element's offset passes 2^32 in size.
+    pub fn apply(&self, alloc: Global, by: &Subst) -> Result<SetTerm, Fail<TooWide>>
+        ensures gives { GivesUnless (wide_set (apply_set by.now self.now)) (apply_set by.now self.now) result }
+        ensures value { IfOk result (λ u. (s : Assignment) → SameMembers (set_value s u) (set_value (under by.now s) self.now)) }
+    {
+        let vars = self.applied_vars(alloc, by)?;
+        let elems = self.applied_elems(alloc, by)?;
+        Ok(SetTerm { vars, elems })
+    }
+}
+
+/// Adds what the set variable's image brings, or the variable itself where it is unbound.
+#[tactic(auto, using(crate::proofs::Images::AllSets_with_new, crate::proofs::Images::AllSets_with_all_new))]
+fn add_image_vars(vars: &mut Vec<Var>, var: Var, by: &Subst) -> Result<(), NoMemory>
+    requires { var.sort ≡ Set }
+    ensures vars { OnOk result (vars.new.items ≡ with_all_new var_eq vars.old.items (image_of by.now var).vars) }
+    ensures sorts { OnOk result (AllSets vars.old.items → AllSets vars.new.items) }
+{
+    match by.set_image(var) {
+        Some(image) => add_vars(vars, image.vars()),
+        None => add_var(vars, var),
+    }
+}
+
+/// Adds the elements of the set variable's image. Each is in range.
+fn add_image_elems(elems: &mut Vec<Term>, var: Var, by: &Subst) -> Result<(), NoMemory>
+    ensures elems { OnOk result (elems.new.items ≡ with_all_new term_eq elems.old.items (image_of by.now var).elems) }
+    ensures narrow { OnOk result (list_any wide_term (image_of by.now var).elems ≡ false) }
+{
+    match by.set_image(var) {
+        Some(image) => add_terms(elems, image.elems()),
+        None => Ok(()),
+    }
+}
+
+impl SetTerm {
+    #[tactic(auto, using(crate::proofs::Repeats::with_all_new_append))]
+    fn applied_vars(&self, alloc: Global, by: &Subst) -> Result<List<Var>, NoMemory>
+        ensures vars { IfOk result (λ vs. vs ≡ without_repeats var_eq (image_vars by.now self.now.vars)) }
+        ensures sorts { IfOk result (λ vs. AllSets vs) }
+    {
+        let mut vars = Vec::new(alloc);
+        for var in self.vars.as_slice() {
+            add_image_vars(&mut vars, *var, by)?;
+        }
+        Ok(List::from_vec(vars))
+    }
+
+    #[tactic(auto, using(crate::proofs::Repeats::with_all_new_append))]
+    fn image_elems(&self, alloc: Global, by: &Subst) -> Result<Vec<Term>, NoMemory>
+        ensures elems { IfOk result (λ es. es.items ≡ without_repeats term_eq (image_elems by.now self.now.vars)) }
+        ensures narrow { OnOk result (list_any wide_term (image_elems by.now self.now.vars) ≡ false) }
+    {
+        let mut elems = Vec::new(alloc);
+        for var in self.vars.as_slice() {
+            add_image_elems(&mut elems, *var, by)?;
+        }
+        Ok(elems)
+    }
+
+    #[tactic(auto, using(crate::proofs::Repeats::with_all_new_append))]
+    fn applied_elems(&self, alloc: Global, by: &Subst) -> Result<List<Term>, Fail<TooWide>>
+        ensures { GivesUnless (wide_set (apply_set by.now self.now)) (apply_set by.now self.now).elems result }
+    {
+        let mut elems = self.image_elems(alloc, by)?;
+        for elem in self.elems.as_slice() {
+            add_term(&mut elems, elem.apply(by)?)?;
+        }
+        Ok(List::from_vec(elems))
+    }
 }
 
 /// A comparison of two integers or two sets, a membership or an inclusion, or the negation of one.
@@ -88,6 +167,28 @@ impl Lit {
             Lit::Sub(a, b) => Lit::NotSub(a, b),
             Lit::NotSub(a, b) => Lit::Sub(a, b),
         }
+    }
+}
+
+impl Lit {
+    /// The literal with the substitution applied to both sides. It is `TooWide` exactly where an
+    /// offset in it passes 2^32 in size.
+    pub fn apply(&self, alloc: Global, by: &Subst) -> Result<Lit, Fail<TooWide>>
+        ensures gives { GivesUnless (wide_lit (apply_lit by.now self.now)) (apply_lit by.now self.now) result }
+        ensures truth { IfOk result (λ l. (s : Assignment) → Truth s l ↔ Truth (under by.now s) self.now) }
+    {
+        Ok(match self {
+            Lit::Eq(a, b) => Lit::Eq(a.apply(by)?, b.apply(by)?),
+            Lit::Ne(a, b) => Lit::Ne(a.apply(by)?, b.apply(by)?),
+            Lit::Le(a, b) => Lit::Le(a.apply(by)?, b.apply(by)?),
+            Lit::Lt(a, b) => Lit::Lt(a.apply(by)?, b.apply(by)?),
+            Lit::Same(a, b) => Lit::Same(a.apply(alloc, by)?, b.apply(alloc, by)?),
+            Lit::NotSame(a, b) => Lit::NotSame(a.apply(alloc, by)?, b.apply(alloc, by)?),
+            Lit::Member(a, b) => Lit::Member(a.apply(by)?, b.apply(alloc, by)?),
+            Lit::NotMember(a, b) => Lit::NotMember(a.apply(by)?, b.apply(alloc, by)?),
+            Lit::Sub(a, b) => Lit::Sub(a.apply(alloc, by)?, b.apply(alloc, by)?),
+            Lit::NotSub(a, b) => Lit::NotSub(a.apply(alloc, by)?, b.apply(alloc, by)?),
+        })
     }
 }
 

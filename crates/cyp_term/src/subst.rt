@@ -30,7 +30,8 @@ pub struct Subst {
 }
 
 impl Subst {
-    /// The image of a variable of sort `Int` or `Card` by its first entry, or `None` where it has none.
+    /// The image of a variable of sort `Int` or `Card` by its first entry, or `None` where it has
+    /// none.
     pub fn image(&self, var: Var) -> Option<Term>
         ensures { result ≡ int_image self.now.ints var }
     {

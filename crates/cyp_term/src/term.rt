@@ -84,8 +84,8 @@ impl Term {
 }
 
 impl Term {
-    /// The term with its base replaced by the base's image. It is `TooWide` exactly where the sum of
-    /// the offsets passes 2^32 in size.
+    /// The term with its base replaced by the base's image. It is `TooWide` exactly where the sum
+    /// of the offsets passes 2^32 in size.
     pub fn apply(self, by: &Subst) -> Result<Term, TooWide>
         ensures gives { AnswersUnless (wide_term (apply_term by.now self)) (apply_term by.now self) result }
         ensures value { IfOk result (λ t. (s : Assignment) → value s t ≡ value (under by.now s) self) }
