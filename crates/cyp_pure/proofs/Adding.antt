@@ -1,12 +1,9 @@
 -- Elements that are added to a list unless they stand there.
-use Rattle.std.proofs.Common.{◌≡◌, OnOk, Result, Ok, Err, ℕ, zero, suc, ◌+◌, ◌<◌, List, [], ◌∷◌, ◌++◌, Bool, get_or, length, take, refl, sym, ap, ◌∙◌, add-one, append-nil, append_assoc, arith}
+use Rattle.std.proofs.Common.{◌≡◌, OnOk, Result, Ok, Err, ℕ, zero, suc, ◌+◌, ◌<◌, List, [], ◌∷◌, ◌++◌, Bool, get_or, length, take, sym, ap, ◌∙◌, add-one, append-nil, append_assoc, arith}
 use Rattle.std.specs.List.{flat_map}
 use Rattle.std.proofs.lemmas.List.{take_more}
 use Rattle.cyp_term.specs.Terms.{with_all_new, with_new}
-
-pub with_all_new_append : {X : Type 0} (eq : X → X → Bool) (xs ys zs : List X) → with_all_new eq xs (ys ++ zs) ≡ with_all_new eq (with_all_new eq xs ys) zs
-with_all_new_append eq xs [] zs = refl
-with_all_new_append eq xs (y ∷ ys) zs = with_all_new_append eq (with_new eq xs y) ys zs
+use Rattle.cyp_term.proofs.Repeats.{with_all_new_append}
 
 -- both lists, one after the other
 pub added_two : {X : Type 0} (eq : X → X → Bool) (old now new ys zs : List X) → now ≡ with_all_new eq old ys → new ≡ with_all_new eq now zs → new ≡ with_all_new eq old (ys ++ zs)

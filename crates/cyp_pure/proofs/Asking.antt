@@ -1,21 +1,20 @@
 -- The literals of a dealing are few enough to be solved.
-use Rattle.std.proofs.Common.{◌≡◌, ◌⊎◌, ◌≤◌, List, ◌++◌, IsTrue, length, inl, inr, sym, subst, arith}
+use Rattle.std.proofs.Common.{◌⊎◌, ◌≤◌, List, ◌++◌, length, inl, inr, subst, arith}
 use Rattle.std.specs.List.{flat_map}
 use Rattle.cyp_term.specs.declared.lit.Lit.{Lit}
-use Rattle.cyp_term.specs.declared.term.Term.{Term}
 use Rattle.cyp_term.specs.declared.term.Var.{Var}
 use Rattle.cyp_term.specs.Regions.{all_terms}
-use Rattle.cyp_term.specs.Terms.{lit_vars, lits_vars, term_vars, var_eq, without_repeats}
+use Rattle.cyp_term.specs.Terms.{lits_vars, term_vars, var_eq}
 use Rattle.cyp_term.proofs.Equality.{Decides-var_eq}
-use Rattle.cyp_term.proofs.Lists.{Among, Among-cases, Among-left, Among-right, flat_in, flat_out}
+use Rattle.cyp_term.proofs.Lists.{Among, Among-cases, Among-left, Among-right}
 use Rattle.cyp_term.proofs.Repeats.{without_repeats_in}
-use Rattle.cyp_diff.specs.Solving.{AreInts, variables}
+use Rattle.cyp_diff.specs.Solving.{variables}
 use Rattle.cyp_pure.specs.declared.dealing.Dealing.{Dealing}
 use Rattle.cyp_pure.specs.declared.dealing.Question.{Question}
 use Rattle.cyp_pure.specs.Dealing.{SaysClasses}
 use Rattle.cyp_pure.specs.Questions.{CanBeAsked, IsAsked, int_side, number_vars, set_side}
 use Rattle.cyp_pure.proofs.Fewer.{fewer_without_repeats}
-use Rattle.cyp_pure.proofs.Saying.{among_var, ints_both, lits_vars_cases, lits_vars_left, lits_vars_right, var_among}
+use Rattle.cyp_pure.proofs.Saying.{among_var, lits_vars_cases, lits_vars_left, lits_vars_right, var_among}
 
 -- a variable of the literals of integers, or of an element term
 number_in : (ints sets : List Lit) (v : Var) → Among v (lits_vars ints) ⊎ Among v (flat_map term_vars (all_terms sets)) → Among v (number_vars ints sets)

@@ -12,7 +12,6 @@ use Rattle.cyp_pure.specs.declared.dealing.Question.{Question}
 use Rattle.cyp_pure.specs.Dealing.{Agrees, CanDeal}
 use Rattle.cyp_pure.proofs.Agreeing.{agrees_at, agrees_less, agrees_more, zip_push, zip_right}
 use Rattle.cyp_pure.proofs.Alls.{all_among}
-use Rattle.cyp_pure.proofs.Saying.{among_at}
 
 -- some of the terms has the value, or none has
 abbrev SomeHas : (Term → ℤ) → List (Term × ℕ) → ℤ → Type 0
@@ -60,15 +59,15 @@ module _ (q : Question) (ks : List ℕ) (n : ℕ) (more : length ks < length q.t
   pub deal_more : All (λ k. k < n) ks → CanDeal q ks → (k : ℕ) × (k ≤ n) × CanDeal q (ks ++ k ∷ [])
   deal_more below h = elim (some_or_none (value h.0) (zip q.terms.now ks) (value h.0 next)) [
     | inl w ↦ (
-        w.0.1,
-        (let lt : w.0.1 < n = class_below below w.0 w.1 in omega arith),
-        deal_as h w.0.1 (λ p m. let both = agrees_at (value h.0) (zip q.terms.now ks) p w.0 h.3 m w.1 in (λ e. both.0 (e ∙ sym w.2), λ e. both.1 e ∙ w.2)),
-      )
+      w.0.1,
+      (let lt : w.0.1 < n = class_below below w.0 w.1 in omega arith),
+      deal_as h w.0.1 (λ p m. let both = agrees_at (value h.0) (zip q.terms.now ks) p w.0 h.3 m w.1 in (λ e. both.0 (e ∙ sym w.2), λ e. both.1 e ∙ w.2)),
+    )
     | inr none ↦ (
-        n,
-        omega arith,
-        deal_as h n (λ p m. (λ e. absurd (none p m e), λ e. let lt : p.1 < n = class_below below p m in absurd (omega arith))),
-      )
+      n,
+      omega arith,
+      deal_as h n (λ p m. (λ e. absurd (none p m e), λ e. let lt : p.1 < n = class_below below p m in absurd (omega arith))),
+    )
   ]
 
 -- one class more that the next term can't have

@@ -12,7 +12,7 @@ use Rattle.cyp_term.proofs.Equality.{Decides-term_eq, Decides-var_eq}
 use Rattle.cyp_term.proofs.Lists.{Among, Among-cases, Among-left, Among-right, filter_in, filter_out, flat_in, flat_out}
 use Rattle.cyp_term.proofs.Repeats.{without_repeats_in, without_repeats_out}
 use Rattle.cyp_pure.specs.Fits.{fits}
-use Rattle.cyp_pure.specs.Questions.{CanBeAsked, number_vars}
+use Rattle.cyp_pure.specs.Questions.{CanBeAsked}
 use Rattle.cyp_pure.specs.Sorts.{HasSorts}
 use Rattle.cyp_pure.proofs.Alls.{all_among, all_from_among}
 use Rattle.cyp_pure.proofs.Fewer.{fewer_without_repeats}

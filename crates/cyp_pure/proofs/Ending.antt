@@ -6,7 +6,7 @@ use Rattle.cyp_term.specs.declared.lit.Lit.{Lit}
 use Rattle.cyp_term.specs.declared.term.Term.{Term}
 use Rattle.cyp_term.specs.declared.term.Var.{Var}
 use Rattle.cyp_term.specs.Integers.{is_int_lit}
-use Rattle.cyp_term.specs.Meaning.{AllTrue, Assignment, Satisfiable, Truth, value}
+use Rattle.cyp_term.specs.Meaning.{AllTrue, Assignment, Satisfiable, value}
 use Rattle.cyp_term.specs.Regions.{all_terms, class_by, regions_fit}
 use Rattle.cyp_term.specs.Terms.{term_eq}
 use Rattle.cyp_term.proofs.Arranged.{Arranged}
@@ -16,7 +16,7 @@ use Rattle.cyp_term.proofs.Lists.{Among, Every-among, Every-from_among}
 use Rattle.cyp_term.proofs.Literals.{IntTruth, SetTruth, int_truth, set_truth}
 use Rattle.cyp_term.proofs.Regions.{Decides-parts}
 use Rattle.cyp_diff.specs.Solving.{AreInts}
-use Rattle.cyp_sets.specs.SetLits.{AreSets}
+use Rattle.cyp_sets.specs.Saying.{AreSets}
 use Rattle.cyp_pure.specs.declared.dealing.Dealing.{Dealing}
 use Rattle.cyp_pure.specs.declared.dealing.Question.{Question}
 use Rattle.cyp_pure.specs.Dealing.{Agrees, CanDeal, IsDealt}
@@ -46,8 +46,8 @@ pub ints_stay : (s : Assignment) (sets : Var → List ℤ) (ls : List Lit) → A
 ints_stay s sets ls h k =
     let a : Assignment = record { number = s.number; members = sets } in
     true_from_among a ls (λ l m.
-        let e : is_int_lit l ≡ true = all_among (λ l. IsTrue (is_int_lit l)) ls l h m in
-        (int_truth a l e).1 (subst (λ val. IntTruth val l) (value-members s sets) ((int_truth s l e).0 (true_among s l ls k m))))
+    let e : is_int_lit l ≡ true = all_among (λ l. IsTrue (is_int_lit l)) ls l h m in
+    (int_truth a l e).1 (subst (λ val. IntTruth val l) (value-members s sets) ((int_truth s l e).0 (true_among s l ls k m))))
 
 sets_in : (s : Assignment) (ls : List Lit) → AreSets ls → AllTrue s ls → AllByRecursion (SetTruth (value s) s.members) ls
 sets_in s ls h k =
@@ -57,7 +57,7 @@ sets_out : (s : Assignment) (sets : Var → List ℤ) (ls : List Lit) → AreSet
 sets_out s sets ls h k =
     let a : Assignment = record { number = s.number; members = sets } in
     true_from_among a ls (λ l m.
-        (set_truth a l (all_among (λ l. is_int_lit l ≡ false) ls l h m)).1 (subst (λ val. SetTruth val sets l) (value-members s sets) (Every-among (SetTruth (value s) sets) l ls k m)))
+    (set_truth a l (all_among (λ l. is_int_lit l ≡ false) ls l h m)).1 (subst (λ val. SetTruth val sets l) (value-members s sets) (Every-among (SetTruth (value s) sets) l ls k m)))
 
 -- ---- all terms have classes
 module _ (q : Question) (d : Dealing) (asked : IsAsked q) (dealt : IsDealt q d) (all : length d.classes ≡ length q.terms.now) where
@@ -67,8 +67,7 @@ module _ (q : Question) (d : Dealing) (asked : IsAsked q) (dealt : IsDealt q d) 
   join_sets : (s : Assignment) → AllTrue s (q.ints.now ++ d.facts) → regions_fit (class_by (all_terms (set_side q)) d.classes) (set_side q) ≡ true → CanDeal q d.classes
   join_sets s h fit =
       let said = (dealt.facts.means s).0 (true_right s q.ints.now d.facts h) in
-      let parts = (Decides-parts (class_by (all_terms (set_side q)) d.classes) (set_side q) (value s) (arranged_at s said.1)).0 fit in
-      (
+      let parts = (Decides-parts (class_by (all_terms (set_side q)) d.classes) (set_side q) (value s) (arranged_at s said.1)).0 fit in (
         record { number = s.number; members = parts.0 },
         ints_stay s parts.0 (int_side q) asked.lits.ints_only (true_both s q.ints.now q.more.now (true_left s q.ints.now d.facts h) said.0),
         sets_out s parts.0 (set_side q) asked.lits.sets_only parts.1,

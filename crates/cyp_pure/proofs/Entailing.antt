@@ -1,5 +1,5 @@
 -- What the parts of a list say together, and when a list is entailed.
-use Rattle.std.proofs.Common.{◌≡◌, ◌⊎◌, ◌↔◌, ℕ, ◌+◌, ◌<◌, ◌≤◌, List, [], ◌∷◌, ◌++◌, Bool, true, false, not, IsTrue, get_or, length, take, inl, inr, refl, sym, ap, subst, subst₂, filter, arith}
+use Rattle.std.proofs.Common.{◌≡◌, ◌⊎◌, ◌↔◌, ℕ, ◌+◌, ◌<◌, ◌≤◌, List, [], ◌∷◌, ◌++◌, Bool, true, false, not, IsTrue, get_or, length, take, inl, inr, refl, sym, ap, subst, subst₂, filter}
 use Rattle.std.specs.Prelude.{Contains}
 use Rattle.std.proofs.lemmas.Bool.{cases_Bool, false≢true}
 use Rattle.std.proofs.lemmas.Bool.Decides.{same_from_decides}
@@ -7,7 +7,7 @@ use Rattle.std.proofs.lemmas.List.{take_all, take_more}
 use Rattle.cyp_term.specs.declared.lit.Lit.{Lit}
 use Rattle.cyp_term.specs.Entailment.{entailed, satisfiable}
 use Rattle.cyp_term.specs.Integers.{int_lits, is_int_lit}
-use Rattle.cyp_term.specs.Meaning.{AllTrue, Assignment, Entails, Satisfiable, Truth}
+use Rattle.cyp_term.specs.Meaning.{AllTrue, Entails, Satisfiable}
 use Rattle.cyp_term.specs.Regions.{set_lits}
 use Rattle.cyp_term.specs.Terms.{negated}
 use Rattle.cyp_term.proofs.Entailment.{entailed_law, entails_one, refutes_one, satisfiable_law}

@@ -1,5 +1,5 @@
 -- The literals of a dealing, with the class of one term more.
-use Rattle.std.proofs.Common.{◌≡◌, ◌⊎◌, ◌↔◌, ℕ, zero, suc, ◌+◌, ◌<◌, ◌≤◌, ℤ, Bool, true, false, List, [], ◌∷◌, ◌++◌, ◌==◌, if◌then◌else◌, IsTrue, get_or, length, map, inl, inr, refl, sym, ap, ◌∙◌, subst, arith}
+use Rattle.std.proofs.Common.{◌≡◌, ◌⊎◌, ◌↔◌, ℕ, zero, suc, ◌+◌, ◌<◌, ◌≤◌, Bool, true, false, List, [], ◌∷◌, ◌++◌, ◌==◌, if◌then◌else◌, IsTrue, get_or, length, inl, inr, refl, sym, ap, ◌∙◌, subst, arith}
 use Rattle.std.specs.List.{All, flat_map, zip}
 use Rattle.std.proofs.lemmas.List.{length-append}
 use Rattle.cyp_term.specs.declared.lit.Lit.{Lit}
@@ -7,7 +7,7 @@ use Rattle.cyp_term.specs.declared.lit.Lit.TheVariants.{Eq, Ne}
 use Rattle.cyp_term.specs.declared.term.Term.{Term}
 use Rattle.cyp_term.specs.declared.term.Var.{Var}
 use Rattle.cyp_term.specs.Integers.{is_int_lit}
-use Rattle.cyp_term.specs.Meaning.{AllTrue, Assignment, Truth, value}
+use Rattle.cyp_term.specs.Meaning.{AllTrue, Assignment, value}
 use Rattle.cyp_term.specs.Terms.{lit_vars, lits_vars, term_vars, var_eq, var_in}
 use Rattle.cyp_term.proofs.Equality.{Decides-var_eq}
 use Rattle.cyp_term.proofs.Lists.{Among, Among-cases, Among-left, Among-right, flat_in, flat_out}
@@ -54,6 +54,7 @@ ties_vars ts t k (p ∷ ps) h i v m = by_part (ties_vars ts t k ps (λ q o. h q 
     by_side : Among v (term_vars p.0) ⊎ Among v (term_vars t) → Among v (flat_map term_vars ts)
     by_side (inl j) = flat_in term_vars v p.0 ts (h p (inl refl)) j
     by_side (inr j) = flat_in term_vars v t ts i j
+
     by_part : (Among v (lits_vars (ties t k ps)) → Among v (flat_map term_vars ts)) → Among v (lit_vars (tie t k p)) ⊎ Among v (lits_vars (ties t k ps)) → Among v (flat_map term_vars ts)
     by_part rest (inl j) = by_side (Among-cases v (term_vars p.0) (term_vars t) (subst (λ vs. Among v vs) (tie_vars t k p) j))
     by_part rest (inr j) = rest j
@@ -91,8 +92,7 @@ pub record Follows (q : Question) (d : Dealing) (t : Term) (k : ℕ) (e : Dealin
 said_means : (q : Question) (d e : Dealing) (t : Term) (k : ℕ) → SaysClasses q d → Follows q d t k e → (s : Assignment) → AllTrue s e.facts ↔ (AllTrue s q.more.now × Agrees (value s) (zip q.terms.now e.classes))
 said_means q d e t k h f s =
     let ps : List (Term × ℕ) = zip q.terms.now d.classes in
-    let zipped : zip q.terms.now e.classes ≡ ps ++ (t, k) ∷ [] = ap (zip q.terms.now) f.classes ∙ zip_push q.terms.now d.classes t k f.more f.term in
-    (
+    let zipped : zip q.terms.now e.classes ≡ ps ++ (t, k) ∷ [] = ap (zip q.terms.now) f.classes ∙ zip_push q.terms.now d.classes t k f.more f.term in (
       λ i.
           let j : AllTrue s (d.facts ++ ties t k ps) = subst (AllTrue s) f.facts i in
           let old = (h.means s).0 (true_left s d.facts (ties t k ps) j) in
@@ -110,6 +110,7 @@ said_vars q d e t k h f v i =
   where
     ps : List (Term × ℕ)
     ps = zip q.terms.now d.classes
+
     by_part : Among v (lits_vars d.facts) ⊎ Among v (lits_vars (ties t k (zip q.terms.now d.classes))) → IsTrue (var_in v (lits_vars q.more.now ++ flat_map term_vars q.terms.now))
     by_part (inl j) = h.vars v (among_var v (lits_vars d.facts) j)
     by_part (inr j) =

@@ -1,5 +1,5 @@
 -- What the solver says of the literals of a dealing.
-use Rattle.std.proofs.Common.{◌≡◌, ◌==◌, ℕ, suc, List, [], ◌∷◌, ◌++◌, length, refl, subst₂, arith, Option, Some, None, Bool, true, false, subst, sym}
+use Rattle.std.proofs.Common.{◌≡◌, ◌==◌, ℕ, suc, List, [], ◌∷◌, ◌++◌, length, refl, subst₂, arith, Option, Some, None, true, false, subst, sym}
 use Rattle.std.specs.List.{zip}
 use Rattle.std.specs.Option.{is_some}
 use Rattle.std.proofs.lemmas.Bool.{false≢true}
@@ -27,7 +27,7 @@ pub ints_of : (q : Question) (d : Dealing) (ks : List ℕ) → SaysClasses q d �
 ints_of q d ks said e h = (
   h.0,
   true_both h.0 q.ints.now d.facts (true_left h.0 q.ints.now q.more.now h.1)
-  ((said.means h.0).1 (true_right h.0 q.ints.now q.more.now h.1, subst (λ js. Agrees (value h.0) (zip q.terms.now js)) (sym e) h.3)),
+      ((said.means h.0).1 (true_right h.0 q.ints.now q.more.now h.1, subst (λ js. Agrees (value h.0) (zip q.terms.now js)) (sym e) h.3)),
 )
 
 pub solved_some : (ls : List Lit) (o : Option (List Value)) → is_some o ≡ true → SolveMeans ls o → Satisfiable ls

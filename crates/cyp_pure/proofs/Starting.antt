@@ -1,11 +1,11 @@
 -- Where no term has a class yet.
-use Rattle.std.proofs.Common.{◌≡◌, ◌↔◌, ℕ, ℤ, ◌≤◌, List, [], ◌∷◌, ◌++◌, IsTrue, length, inl, inr, refl, sym, ap, ◌∙◌, subst, arith}
-use Rattle.std.specs.List.{All, flat_map, zip}
+use Rattle.std.proofs.Common.{◌≡◌, ◌↔◌, ℕ, ℤ, List, [], ◌∷◌, ◌++◌, IsTrue, length, refl, sym, ap, ◌∙◌, subst, arith}
+use Rattle.std.specs.List.{flat_map, zip}
 use Rattle.cyp_term.specs.declared.lit.Lit.{Lit}
 use Rattle.cyp_term.specs.declared.lit.Lit.TheVariants.{Same, NotSame, Member, NotMember, Sub, NotSub}
 use Rattle.cyp_term.specs.declared.term.Term.{Term}
 use Rattle.cyp_term.specs.Integers.{is_int_lit}
-use Rattle.cyp_term.specs.Meaning.{AllTrue, Assignment, Satisfiable, value}
+use Rattle.cyp_term.specs.Meaning.{AllTrue, Satisfiable, value}
 use Rattle.cyp_term.specs.Regions.{all_terms, elem_terms}
 use Rattle.cyp_term.specs.Terms.{lit_elements, lits_vars, term_eq, term_vars, with_all_new, without_repeats}
 use Rattle.cyp_term.proofs.Lists.{Among, Among-left, Among-right}

@@ -64,12 +64,7 @@ fn can_be_true(
 }
 
 /// Whether something makes the parted literals true and this one false.
-fn can_be_false(
-    alloc: Global,
-    parted: &Parted,
-    lit: &Lit,
-    is_int: bool,
-) -> Result<bool, NoMemory>
+fn can_be_false(alloc: Global, parted: &Parted, lit: &Lit, is_int: bool) -> Result<bool, NoMemory>
     requires kind { is_int ≡ is_int_lit lit.now }
     requires asked { CanBeAsked (parted.now.ints ++ int_lits (negated lit.now ∷ [])) (parted.now.sets ++ set_lits (negated lit.now ∷ [])) }
     ensures { IfOk result (λ r. IsTrue r ↔ CanBeTrue (parted.now.ints ++ int_lits (negated lit.now ∷ [])) (parted.now.sets ++ set_lits (negated lit.now ∷ []))) }

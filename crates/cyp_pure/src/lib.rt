@@ -10,3 +10,6 @@ mod sorts;
 
 pub use entail::{entails, satisfiable};
 pub use limits::fits;
+
+#[cfg(test)]
+mod tests;

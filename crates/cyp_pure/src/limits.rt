@@ -8,9 +8,13 @@ use cyp_term::{Lit, NoMemory, Sort, Term, Var};
 use std::alloc::Global;
 
 const MOST_LEFT: usize = 320;
+
 const MOST_RIGHT: usize = 64;
+
 const MOST_NUMBERS: usize = 32;
+
 const MOST_SETS: usize = 12;
+
 const MOST_ELEMENTS: usize = 6;
 
 fn add_all_vars(vars: &mut Vec<Var>, lits: &[Lit]) -> Result<(), NoMemory>

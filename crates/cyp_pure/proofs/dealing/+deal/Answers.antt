@@ -1,4 +1,4 @@
-use Rattle.std.proofs.Common.{◌≡◌, ◌∙◌, ◌∷◌, [], ◌++◌, ◌+◌, ◌*◌, ◌-◌, ◌<◌, Bool, true, false, length, refl, sym, ap, subst, arith}
+use Rattle.std.proofs.Common.{◌≡◌, ◌∙◌, ◌∷◌, [], ◌++◌, ◌+◌, ◌*◌, ◌-◌, ◌<◌, length, refl, sym, ap, arith}
 use Rattle.std.proofs.lemmas.Bool.{false≢true}
 use Rattle.std.proofs.lemmas.List.{length-append}
 use Rattle.std.specs.Prelude.{◌↔◌, IsTrue}
@@ -18,8 +18,8 @@ deal-returns-then-len-question t c =
     let ss = set_side c.args.question.now in
     ok_with c.regions_with.result (λ b. b ≡ regions_fit (class_by (all_terms ss) c.as_slice.result.now) ss) (λ b. IsTrue b ↔ CanDeal c.args.question.now c.args.dealing.now.classes)
     (λ b e.
-        at_end c.args.question.now c.args.dealing.now c.requires.asked c.requires.dealt (sym c.len.ensures ∙ c.if-len-question.true) b c.requires.possible
-        (e ∙ ap (λ ks. regions_fit (class_by (all_terms ss) ks) ss) c.as_slice.ensures))
+    at_end c.args.question.now c.args.dealing.now c.requires.asked c.requires.dealt (sym c.len.ensures ∙ c.if-len-question.true) b c.requires.possible
+    (e ∙ ap (λ ks. regions_fit (class_by (all_terms ss) ks) ss) c.as_slice.ensures))
     c.regions_with.ensures.test
 
 pub deal-returns-then-branch : goal.deal-returns-then-branch
@@ -46,8 +46,7 @@ deal_next-solve_with-requires-clause-few t c =
 pub deal_next-deal-requires : goal.deal_next-deal-requires
 deal_next-deal-requires t c =
     let falls : 2 * (length c.args.question.now.terms.now - length c.in_ok-next.next.classes) + 1 < t =
-    omega (arith, ap length c.in_ok-next.ensures.0, length-append c.args.dealing.now.classes (c.args.class ∷ []), c.decreases, c.requires.more) in
-    (
+    omega (arith, ap length c.in_ok-next.ensures.0, length-append c.args.dealing.now.classes (c.args.class ∷ []), c.decreases, c.requires.more) in (
       falls,
       (
         c.requires.asked,
@@ -63,5 +62,5 @@ deal_next-returns t c = (
   λ e. absurd (false≢true e),
   λ h.
       absurd (unsolved c.args.question.now.ints.now c.as_slice.result.now c.in_ok-next.next.facts c.in_ok-solve_with.field-0 c.in_ok-solve_with.ensures c.in-None.is c.as_slice.ensures
-          (ints_of c.args.question.now c.in_ok-next.next (c.args.dealing.now.classes ++ c.args.class ∷ []) c.in_ok-next.ensures.1.facts c.in_ok-next.ensures.0 h)),
+      (ints_of c.args.question.now c.in_ok-next.next (c.args.dealing.now.classes ++ c.args.class ∷ []) c.in_ok-next.ensures.1.facts c.in_ok-next.ensures.0 h)),
 )

@@ -18,8 +18,7 @@ returns c =
       term = c.index-question-len.is ∙ ap (λ n. get_or ts n t) c.len.ensures;
       classes = classes;
       facts = c.in_ok-facts.ensures ∙ ap (λ u. d.facts ++ ties u c.args.class (zip ts d.classes)) (sym c.index-question-len.is);
-    } in
-    (
+    } in (
       classes,
       elim c.if-class-dealing.branch [
         | then-class-dealing w ↦

@@ -1,10 +1,9 @@
-use Rattle.std.proofs.Common.{◌≡◌, ◌∙◌, ◌++◌, List, [], length, refl, sym, ap, ap₂, subst₂, arith}
+use Rattle.std.proofs.Common.{◌∙◌, ◌++◌, length, refl, sym, ap, subst₂, arith}
 use Rattle.std.specs.Prelude.{◌↔◌, IsTrue}
 use Rattle.cyp_diff.specs.Solving.{variables}
-use Rattle.cyp_term.specs.declared.lit.Lit.{Lit}
 use Rattle.cyp_pure.specs.declared.dealing.Question.{Question}
 use Rattle.cyp_pure.specs.Dealing.{CanDeal}
-use Rattle.cyp_pure.specs.Questions.{CanBeAsked, CanBeTrue, IsAsked}
+use Rattle.cyp_pure.specs.Questions.{CanBeAsked, CanBeTrue}
 use Rattle.cyp_pure.proofs.Alls.{ok_with}
 use Rattle.cyp_pure.proofs.Asking.{few_ints}
 use Rattle.cyp_pure.proofs.Solved.{no_sets, solved_some}
@@ -29,7 +28,7 @@ pub deal-requires-clause-asked : goal.deal-requires-clause-asked
 deal-requires-clause-asked c = record {
   lits = subst₂ (λ is ss. CanBeAsked (is ++ c.args.more.now) (ss ++ c.args.more_sets.now)) (sym c.as_slice-ints.ensures) (sym c.as_slice-sets.ensures) c.requires;
   terms = c.as_slice.ensures.value
-  ∙ terms_are c.as_slice-sets.result.now c.args.more_sets.now c.new-terms.result.items c.add_all_elements.new.terms.items c.add_all_elements-2.new.terms.items c.new-terms.ensures.items c.in_ok-add_all_elements.ensures c.in_ok-add_all_elements-2.ensures;
+      ∙ terms_are c.as_slice-sets.result.now c.args.more_sets.now c.new-terms.result.items c.add_all_elements.new.terms.items c.add_all_elements-2.new.terms.items c.new-terms.ensures.items c.in_ok-add_all_elements.ensures c.in_ok-add_all_elements-2.ensures;
 }
 
 pub deal-requires-clause-dealt : goal.deal-requires-clause-dealt
@@ -47,6 +46,6 @@ returns c =
     let means = start_means q c.in_ok-start.field-0 c.in_ok-start.ensures in
     ok_with c.deal.result (λ b. IsTrue b ↔ CanDeal q c.in_ok-start.field-0.classes) (λ b. IsTrue b ↔ CanBeTrue (c.args.parted.now.ints ++ c.args.more.now) (c.args.parted.now.sets ++ c.args.more_sets.now))
     (λ b h.
-        subst₂ (λ is ss. IsTrue b ↔ CanBeTrue (is ++ c.args.more.now) (ss ++ c.args.more_sets.now)) c.as_slice-ints.ensures c.as_slice-sets.ensures
-        (λ e. means.0 (h.0 e), λ k. h.1 (means.1 k)))
+    subst₂ (λ is ss. IsTrue b ↔ CanBeTrue (is ++ c.args.more.now) (ss ++ c.args.more_sets.now)) c.as_slice-ints.ensures c.as_slice-sets.ensures
+    (λ e. means.0 (h.0 e), λ k. h.1 (means.1 k)))
     c.deal.ensures

@@ -24,7 +24,7 @@ loop-lit-preserved c =
           record {
             ints = ap (λ v. v.items) w.ints-is ∙ filter_left is_int_lit ls c.loop-lit.ints.items k l c.loop-lit.invariant.ints c.loop-lit-test.true c.lit-item.is int;
             sets = ap (λ v. v.items) w.sets-is
-            ∙ filter_kept (λ m. not (is_int_lit m)) ls c.loop-lit.sets.items w.push-else-compares_ints.new.self.items k l c.in_ok-copy.copy c.loop-lit.invariant.sets c.loop-lit-test.true c.lit-item.is (ap not int) c.in_ok-copy.ensures w.in_ok-push-2.ensures.items;
+                ∙ filter_kept (λ m. not (is_int_lit m)) ls c.loop-lit.sets.items w.push-else-compares_ints.new.self.items k l c.in_ok-copy.copy c.loop-lit.invariant.sets c.loop-lit-test.true c.lit-item.is (ap not int) c.in_ok-copy.ensures w.in_ok-push-2.ensures.items;
             sorts = sorts;
           }
     ]

@@ -1,4 +1,4 @@
-use Rattle.cyp_term.specs.Terms.{set_vars, term_vars, var_eq}
+use Rattle.cyp_term.specs.Terms.{set_vars, var_eq}
 use Rattle.cyp_pure.proofs.Adding.{added_ok}
 use Rattle.cyp_pure.proofs.Sides.{vars_compared}
 use Rattle.cyp_pure.proofs.seen.add_lit_vars.Goals as goal
