@@ -1,0 +1,17 @@
+pub mod Adding
+pub mod Sides
+pub mod Counts
+pub mod Parting
+pub mod Fewer
+pub mod Alls
+pub mod Agreeing
+pub mod Saying
+pub mod Tying
+pub mod Ending
+pub mod Choosing
+pub mod Asking
+pub mod Solved
+pub mod Starting
+pub mod Sorted
+pub mod Covering
+pub mod Entailing
