@@ -2,6 +2,7 @@
 //! of the normal form.
 #![tactic(auto)]
 
+mod addresses;
 mod draft;
 mod equations;
 mod goal_facts;

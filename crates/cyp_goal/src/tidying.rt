@@ -43,7 +43,7 @@ fn is_plainly_true(lit: &Lit) -> bool
     }
 }
 
-fn is_lit_among(lit: &Lit, lits: &[Lit]) -> bool
+pub(crate) fn is_lit_among(lit: &Lit, lits: &[Lit]) -> bool
     ensures { result ≡ list_any (lit_eq lit.now) lits.now }
 {
     for other in lits {
@@ -70,7 +70,7 @@ fn take_out(lits: &mut List<Lit>, place: usize)
 }
 
 /// The literals without those that are plainly true and without repeats.
-fn tidy_lits(lits: List<Lit>) -> List<Lit>
+pub(crate) fn tidy_lits(lits: List<Lit>) -> List<Lit>
     ensures { result ≡ tidy_lits lits }
 {
     let mut lits = lits;
