@@ -40,5 +40,6 @@ pub mod SolveLeaves
 pub mod SolvedLits
 pub mod SolvingTurns
 pub mod Tidied
+pub mod Spreading
 pub mod TidyLeaves
 pub mod VarTables

@@ -8,6 +8,7 @@ mod equations;
 mod goal_facts;
 mod laws;
 mod occurs;
+mod pruning;
 mod solving;
 mod substitution;
 mod tidying;
