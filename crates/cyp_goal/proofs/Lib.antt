@@ -1,4 +1,5 @@
 pub mod Added
+pub mod AddressLits
 pub mod AllNew
 pub mod Differing
 pub mod EachVar
@@ -7,6 +8,8 @@ pub mod Extended
 pub mod FirstPlaces
 pub mod FirstSolved
 pub mod Fits
+pub mod IntOrders
+pub mod LeastTerms
 pub mod LinksCards
 pub mod LinksFit
 pub mod LinksNormal
@@ -37,5 +40,6 @@ pub mod SolveLeaves
 pub mod SolvedLits
 pub mod SolvingTurns
 pub mod Tidied
+pub mod Spreading
 pub mod TidyLeaves
 pub mod VarTables

@@ -3,6 +3,7 @@ pub mod Solving
 pub mod Tidying
 pub mod Pruning
 pub mod Numbering
+pub mod Least
 pub mod Normal
 pub mod Facts
 pub mod Failures

@@ -2,11 +2,13 @@
 //! of the normal form.
 #![tactic(auto)]
 
+mod addresses;
 mod draft;
 mod equations;
 mod goal_facts;
 mod laws;
 mod occurs;
+mod pruning;
 mod solving;
 mod substitution;
 mod tidying;

@@ -1,4 +1,4 @@
-ghost use Rattle.std.specs.Prelude.{◌≡◌, ◌++◌, List};
+ghost use Rattle.std.specs.Prelude.{◌≡◌, ◌++◌, ◌==◌, List, length};
 ghost use Rattle.std.specs.List.{flat_map, list_any};
 ghost use Rattle.cyp_heap.specs.Chunks.{arg_vars, chunk_vars};
 ghost use Rattle.cyp_term.specs.Terms.{lit_vars, set_vars, term_vars, var_eq, var_in, with_all_new};
@@ -19,6 +19,10 @@ pub(crate) trait Occurs {
     /// Whether one of the variables is in the table.
     fn meets(&self, table: &VarTable) -> bool
         ensures { result ≡ list_any (λ v. var_in v table.now) (occurring self.now) };
+
+    /// Whether no variable occurs.
+    fn is_closed(&self) -> bool
+        ensures { result ≡ (length (occurring self.now) == 0) };
 }
 
 /// Adds the variables of each item in turn.
@@ -42,6 +46,18 @@ pub(crate) fn some_meets<T: Occurs>(items: &[T], table: &VarTable) -> bool
     false
 }
 
+/// Whether no variable occurs in any of the items.
+pub(crate) fn are_closed<T: Occurs>(items: &[T]) -> bool
+    ensures { result ≡ (length (flat_map T.occurring items.now) == 0) }
+{
+    for item in items {
+        if !item.is_closed() {
+            return false;
+        }
+    }
+    true
+}
+
 impl Occurs for Var {
     ghost use Rattle.std.specs.Prelude.{[], ◌∷◌};
 
@@ -53,6 +69,10 @@ impl Occurs for Var {
 
     fn meets(&self, table: &VarTable) -> bool {
         table.has(*self)
+    }
+
+    fn is_closed(&self) -> bool {
+        false
     }
 }
 
@@ -71,6 +91,10 @@ impl Occurs for Term {
             None => false,
         }
     }
+
+    fn is_closed(&self) -> bool {
+        self.base().is_none()
+    }
 }
 
 impl Occurs for SetTerm {
@@ -83,6 +107,10 @@ impl Occurs for SetTerm {
 
     fn meets(&self, table: &VarTable) -> bool {
         some_meets(self.vars(), table) || some_meets(self.elems(), table)
+    }
+
+    fn is_closed(&self) -> bool {
+        are_closed(self.vars()) && are_closed(self.elems())
     }
 }
 
@@ -119,6 +147,18 @@ impl Occurs for Lit {
             }
         }
     }
+
+    fn is_closed(&self) -> bool {
+        match self {
+            Lit::Eq(a, b) | Lit::Ne(a, b) | Lit::Le(a, b) | Lit::Lt(a, b) => {
+                a.is_closed() && b.is_closed()
+            }
+            Lit::Member(a, b) | Lit::NotMember(a, b) => a.is_closed() && b.is_closed(),
+            Lit::Same(a, b) | Lit::NotSame(a, b) | Lit::Sub(a, b) | Lit::NotSub(a, b) => {
+                a.is_closed() && b.is_closed()
+            }
+        }
+    }
 }
 
 impl Occurs for Arg {
@@ -135,6 +175,13 @@ impl Occurs for Arg {
         match self {
             Arg::Int(term) => term.meets(table),
             Arg::Set(set) => set.meets(table),
+        }
+    }
+
+    fn is_closed(&self) -> bool {
+        match self {
+            Arg::Int(term) => term.is_closed(),
+            Arg::Set(set) => set.is_closed(),
         }
     }
 }
@@ -163,6 +210,14 @@ impl Occurs for Chunk {
             }
             Chunk::Block(block) => block.at().meets(table),
             Chunk::Cell(cell) => cell.at.meets(table) || cell.content.meets(table),
+        }
+    }
+
+    fn is_closed(&self) -> bool {
+        match self {
+            Chunk::Inst(inst) => inst.card.is_none() && are_closed(inst.args.as_slice()),
+            Chunk::Block(block) => block.at().is_closed(),
+            Chunk::Cell(cell) => cell.at.is_closed() && cell.content.is_closed(),
         }
     }
 }

@@ -1,15 +1,14 @@
-ghost use Rattle.std.specs.Prelude.{◌≡◌, ◌↔◌, IfOk, IsTrue, MatchOption, None, OnOk, Some, get_or, length, map, pos, remove, take, ◌<◌, ◌||◌};
-ghost use Rattle.std.specs.List.{filter, flat_map, list_any};
-ghost use Rattle.std.specs.Option.{option_map};
-ghost use Rattle.cyp_goal.specs.Tidying.{above_zero, address, address_lits, is_plainly_true, least_of, offsets_at, tidy_lits, with_addresses};
+ghost use Rattle.std.specs.Prelude.{◌≡◌, ◌↔◌, IfOk, IsTrue, get_or, length, remove, take, ◌<◌, ◌||◌};
+ghost use Rattle.std.specs.List.{list_any};
 ghost use Rattle.cyp_goal.specs.Normal.{tidy_node};
-ghost use Rattle.cyp_term.specs.Terms.{base_eq, lit_eq, set_eq, term_vars, var_eq, with_all_new, with_new, without_repeats};
+ghost use Rattle.cyp_goal.specs.Tidying.{is_plainly_true, tidy_lits};
+ghost use Rattle.cyp_term.specs.Terms.{lit_eq, set_eq};
 ghost use Rattle.cyp_term.specs.declared.lit.Lit.{Lit as TheLit};
 
+use crate::addresses::with_addresses;
 use crate::draft::Draft;
-use crate::equations::is_among;
-use cyp_heap::Chunk;
-use cyp_term::{Exact, List, Lit, NoMemory, SetTerm, Term, Var};
+use cyp_heap::Goal;
+use cyp_term::{Exact, List, Lit, NoMemory, SetTerm};
 use std::alloc::Global;
 
 fn same<T: Exact>(a: &T, b: &T) -> bool
@@ -43,7 +42,7 @@ fn is_plainly_true(lit: &Lit) -> bool
     }
 }
 
-fn is_lit_among(lit: &Lit, lits: &[Lit]) -> bool
+pub(crate) fn is_lit_among(lit: &Lit, lits: &[Lit]) -> bool
     ensures { result ≡ list_any (lit_eq lit.now) lits.now }
 {
     for other in lits {
@@ -83,4 +82,31 @@ fn tidy_lits(lits: List<Lit>) -> List<Lit>
         }
     }
     lits
+}
+
+/// Both pure parts without literals that tell nothing, and that the addresses of the pre are
+/// positive.
+pub(crate) fn tidy(alloc: Global, draft: Draft) -> Result<Draft, NoMemory>
+    ensures { IfOk result (λ d. d ≡ tidy_node draft) }
+{
+    let Draft { preds, goal, links } = draft;
+    let Goal {
+        program,
+        exist,
+        pure_pre,
+        pre,
+        pure_post,
+        post,
+    } = goal;
+    let pure_pre = with_addresses(alloc, tidy_lits(pure_pre), pre.chunks())?;
+    let pure_post = tidy_lits(pure_post);
+    let goal = Goal {
+        program,
+        exist,
+        pure_pre,
+        pre,
+        pure_post,
+        post,
+    };
+    Ok(Draft { preds, goal, links })
 }

@@ -102,6 +102,13 @@ impl VarTable {
         }
     }
 
+    /// How many variables there are.
+    pub(crate) fn len(&self) -> usize
+        ensures { result ≡ length self.now }
+    {
+        self.len
+    }
+
     /// Whether the variable is there.
     pub(crate) fn has(&self, var: Var) -> bool
         ensures has { result ≡ var_in var self.now }
