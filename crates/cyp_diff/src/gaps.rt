@@ -44,7 +44,8 @@ fn broken(xs: &[i64], gaps: &[Gap]) -> Option<usize>
     None
 }
 
-/// How many integers the gap's difference may be, and more for a gap that needs no order yet; 0 where one order is all that is left.
+/// How much choice the gap leaves: 0 where one of its orders is out, else how far its difference may vary, and the most where
+/// the integers avoid it.
 fn choice(bounds: &Bounds, xs: &[i64], gap: Gap) -> i64
     requires gap { IsGap (length bounds.now) gap }
     requires places { length xs.now ≡ length bounds.now }
@@ -61,7 +62,7 @@ fn choice(bounds: &Bounds, xs: &[i64], gap: Gap) -> i64
     }
 }
 
-/// Which gap leaves the least choice. One at `first` is broken.
+/// Which gap leaves the least choice. The one at `first` is broken.
 fn narrowest(bounds: &Bounds, xs: &[i64], gaps: &[Gap], first: usize) -> usize
     requires gaps { All (IsGap (length bounds.now)) gaps.now }
     requires places { length xs.now ≡ length bounds.now }
