@@ -126,7 +126,11 @@ fn add_numbers(lits: &mut Vec<Lit>, terms: &[Term]) -> Result<(), NoMemory>
 }
 
 /// The literals, and that the addresses of the chunks are positive.
-pub(crate) fn with_addresses(alloc: Global, lits: List<Lit>, chunks: &[Chunk]) -> Result<List<Lit>, NoMemory>
+pub(crate) fn with_addresses(
+    alloc: Global,
+    lits: List<Lit>,
+    chunks: &[Chunk],
+) -> Result<List<Lit>, NoMemory>
     ensures { IfOk result (λ ls. ls ≡ with_all_new lit_eq lits (address_lits (flat_map address chunks.now))) }
 {
     let terms = addresses(alloc, chunks)?;
