@@ -17,10 +17,13 @@ pub mod LitEquality
 pub mod Live
 pub mod Loops
 pub mod Maps
+pub mod NamedImages
 pub mod NormalKeeps
 pub mod NormalOfNormal
+pub mod NumberedParts
 pub mod Occurring
 pub mod PruneLeaves
+pub mod PruneTables
 pub mod Ranks
 pub mod Rename
 pub mod RenameApply

@@ -69,3 +69,9 @@ live_at_first start a b c d e ps us vs ws ts none f g h k m =
     let third : c ≡ with_all_new var_eq [] (ps ++ us ++ vs) = added_two [] b c (ps ++ us) vs second h in
     let fourth : d ≡ with_all_new var_eq [] (ps ++ us ++ vs ++ ws) = added_two [] c d (ps ++ us ++ vs) ws third k in
     added_two [] d e (ps ++ us ++ vs ++ ws) ts fourth m
+
+-- ---- variables of a node in order of first occurrence
+pub node_in_parts : (start a b c d e f : List Var) (ps : List Var) (us vs ws ts ks : List Var) → start ≡ [] → a ≡ with_all_new var_eq start (flat_map alone ps) → b ≡ with_all_new var_eq a us
+    → c ≡ with_all_new var_eq b vs → d ≡ with_all_new var_eq c ws → e ≡ with_all_new var_eq d ts → f ≡ with_all_new var_eq e ks → f ≡ without_repeats var_eq (ps ++ us ++ vs ++ ws ++ ts ++ ks)
+node_in_parts start a b c d e f ps us vs ws ts ks none h i j k l m =
+    added_two [] e f (ps ++ us ++ vs ++ ws ++ ts) ks (live_at_first start a b c d e ps us vs ws ts none h i j k l) m

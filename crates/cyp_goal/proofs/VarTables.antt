@@ -1,6 +1,6 @@
 -- Tables of variables: one more variable, and how many fit.
-use Rattle.std.proofs.Common.{◌≡◌, ◌∙◌, ◌||◌, ◌&&◌, [], ◌∷◌, ◌++◌, ◌+◌, ◌<◌, ◌≤◌, ◌==◌, Bool, List, true, false, cond, length, get_or, set, not, ℕ, zero, suc, refl, ap, ap₂, sym, ⊎_elim, arith, length-set, get_or-set_same, get_or-set_other, replicate, add-one, add-zero, subst, take}
-use Rattle.std.specs.List.{count_by, list_any, sum_by}
+use Rattle.std.proofs.Common.{◌≡◌, ◌⊎◌, inl, inr, ◌∙◌, ◌||◌, ◌&&◌, [], ◌∷◌, ◌++◌, ◌+◌, ◌<◌, ◌≤◌, ◌==◌, Bool, List, true, false, cond, length, get_or, set, not, ℕ, zero, suc, refl, ap, ap₂, sym, ⊎_elim, arith, length-set, get_or-set_same, get_or-set_other, replicate, add-one, add-zero, subst, take}
+use Rattle.std.specs.List.{count_by, filter, list_any, sum_by}
 use Rattle.std.proofs.lemmas.Bool.{both_ways, cases_Bool, cases_eq, cond_both, cond-false, cond-true, false_from_ne_true}
 use Rattle.std.proofs.lemmas.List.{get_or-replicate, length-replicate, take_more_set}
 use Rattle.std.proofs.lemmas.List.Folds.{list_any-append, sum_by-replicate}
@@ -10,7 +10,7 @@ use Rattle.cyp_goal.proofs.Live.{among_in, in_among}
 use Rattle.cyp_goal.specs.Numbering.{rank_from, rank_in}
 use Rattle.cyp_goal.specs.VarTables.{IsPlaced, IsTable, number_of_sort, slot}
 use Rattle.cyp_term.proofs.Equality.{Decides-sort_eq, Decides-var_eq}
-use Rattle.cyp_term.specs.Terms.{sort_eq, var_eq, var_in, with_new}
+use Rattle.cyp_term.specs.Terms.{is_set_var, sort_eq, var_eq, var_in, with_new}
 use Rattle.cyp_term.specs.declared.term.Sort.{Sort}
 use Rattle.cyp_term.specs.declared.term.Sort.TheVariants.{Card, Int, Set}
 use Rattle.cyp_term.specs.declared.term.Var.{Var}
@@ -284,3 +284,50 @@ module _ (order : List Var) (len : ℕ) (ints : List ℕ) (i : ℕ) (cards : Lis
     -- what callers see
     pub table_more : (now : List Var) → take len order ≡ now → take (len + 1) longer ≡ with_new var_eq now v
     table_more now e = pushed ∙ sym (cond-false (var_in v (take len order)) (take len order) (take len order ++ v ∷ []) new) ∙ ap (λ vs. with_new var_eq vs v) e
+
+-- ---- how many there are of which kind
+both_kinds : (z : Sort) (n i c : ℕ) → cond (sort_eq z Int) 1 0 + i + (cond (sort_eq z Card) 1 0 + c) ≡ cond (not (sort_eq z Set)) 1 0 + (i + c)
+both_kinds Int n i c = omega arith
+both_kinds Card n i c = omega arith
+both_kinds Set n i c = omega arith
+
+counted : {A : Type 0} (test : A → Bool) (x : A) (xs : List A) → length (filter test (x ∷ xs)) ≡ cond (test x) 1 0 + length (filter test xs)
+counted test x xs = by_test (test x)
+  where
+    by_test : (b : Bool) → length (cond b (x ∷ filter test xs) (filter test xs)) ≡ cond b 1 0 + length (filter test xs)
+    by_test true = omega arith
+    by_test false = omega arith
+
+ints_counted : (vs : List Var) → number_of_sort vs Int + number_of_sort vs Card ≡ length (filter (λ v. not (is_set_var v)) vs)
+ints_counted [] = refl
+ints_counted (v ∷ vs) =
+    ap₂ ◌+◌ (number_cons v vs Int) (number_cons v vs Card) ∙ both_kinds v.sort 0 (number_of_sort vs Int) (number_of_sort vs Card)
+    ∙ ap (λ k. cond (not (is_set_var v)) 1 0 + k) (ints_counted vs) ∙ sym (counted (λ w. not (is_set_var w)) v vs)
+
+sets_counted : (vs : List Var) → number_of_sort vs Set ≡ length (filter is_set_var vs)
+sets_counted [] = refl
+sets_counted (v ∷ vs) = number_cons v vs Set ∙ ap (λ k. cond (is_set_var v) 1 0 + k) (sets_counted vs) ∙ sym (counted is_set_var v vs)
+
+module _ (order : List Var) (len : ℕ) (ints : List ℕ) (i : ℕ) (cards : List ℕ) (c : ℕ) (sets : List ℕ) (s : ℕ) (is : IsTable order len ints i cards c sets s) (now : List Var) (view : take len order ≡ now) where
+  pub ints_are : i + c ≡ length (filter (λ v. not (is_set_var v)) now)
+  ints_are = ap₂ ◌+◌ is.int_places.many is.card_places.many ∙ ints_counted (take len order) ∙ ap (λ vs. length (filter (λ v. not (is_set_var v)) vs)) view
+
+  pub sets_are : s ≡ length (filter is_set_var now)
+  sets_are = is.set_places.many ∙ sets_counted (take len order) ∙ ap (λ vs. length (filter is_set_var vs)) view
+
+-- a variable's place is below the number of variables of its kind
+pub rank_kind : (vs : List Var) (v : Var) → var_in v vs ≡ true → (rank_in vs v < length (filter (λ w. not (is_set_var w)) vs)) ⊎ (rank_in vs v < length (filter is_set_var vs))
+rank_kind vs v h = by_sort v.sort refl
+  where
+    below : rank_in vs v < number_of_sort vs v.sort
+    below = rank_in-below vs v h
+    by_sort : (z : Sort) → v.sort ≡ z → (rank_in vs v < length (filter (λ w. not (is_set_var w)) vs)) ⊎ (rank_in vs v < length (filter is_set_var vs))
+    by_sort Int e =
+        let own : rank_in vs v < number_of_sort vs Int = subst (λ z. rank_in vs v < number_of_sort vs z) e below in
+        let both : number_of_sort vs Int + number_of_sort vs Card ≡ length (filter (λ w. not (is_set_var w)) vs) = ints_counted vs in
+        inl (omega arith)
+    by_sort Card e =
+        let own : rank_in vs v < number_of_sort vs Card = subst (λ z. rank_in vs v < number_of_sort vs z) e below in
+        let both : number_of_sort vs Int + number_of_sort vs Card ≡ length (filter (λ w. not (is_set_var w)) vs) = ints_counted vs in
+        inl (omega arith)
+    by_sort Set e = inr (subst (λ k. rank_in vs v < k) (sets_counted vs) (subst (λ z. rank_in vs v < number_of_sort vs z) e below))

@@ -1,7 +1,9 @@
+pub mod Alive
 pub mod SolvedSides
 pub mod Solving
 pub mod Tidying
 pub mod Pruning
+pub mod Named
 pub mod Numbering
 pub mod Least
 pub mod Normal

@@ -4,7 +4,7 @@ ghost use Rattle.cyp_goal.specs.Least.{least_term, lesser};
 ghost use Rattle.cyp_goal.specs.Tidying.{above_zero, address, address_lits, least_of, offsets_at};
 ghost use Rattle.cyp_term.specs.Terms.{base_eq, lit_eq, term_vars, var_eq, var_in, with_all_new, with_new, without_repeats};
 
-use crate::equations::is_among;
+use crate::once::add_var;
 use crate::tidying::is_lit_among;
 use cyp_heap::Chunk;
 use cyp_term::{List, Lit, NoMemory, Term, Var};
@@ -27,12 +27,10 @@ fn addresses(alloc: Global, chunks: &[Chunk]) -> Result<Vec<Term>, NoMemory>
 fn add_base(bases: &mut Vec<Var>, term: &Term) -> Result<(), NoMemory>
     ensures { OnOk result (bases.new.items ≡ with_all_new var_eq bases.old.items (term_vars term.now)) }
 {
-    if let Some(var) = term.base() {
-        if !is_among(var, bases.as_slice()) {
-            bases.push(var)?;
-        }
+    match term.base() {
+        Some(var) => add_var(bases, var),
+        None => Ok(()),
     }
-    Ok(())
 }
 
 /// The bases of the terms in order of first occurrence.

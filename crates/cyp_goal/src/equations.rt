@@ -5,6 +5,7 @@ ghost use Rattle.cyp_term.specs.Terms.{base_eq, sort_eq, var_in, wide_set};
 ghost use Rattle.cyp_term.specs.declared.lit.Lit.TheVariants.{Eq, Same};
 
 use crate::draft::TooLarge;
+use crate::once::is_among;
 use cyp_term::{Fail, IntBind, List, Lit, NoMemory, SetBind, SetTerm, Sort, Subst, Term, Var};
 use std::alloc::Global;
 
@@ -22,12 +23,6 @@ pub(crate) enum Unknowns<'a> {
 pub(crate) enum Side {
     Left,
     Right,
-}
-
-pub(crate) fn is_among(var: Var, vars: &[Var]) -> bool
-    ensures { result ≡ var_in var vars.now }
-{
-    vars.iter().any(|other| *other == var)
 }
 
 impl Unknowns<'_> {

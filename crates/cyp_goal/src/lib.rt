@@ -7,11 +7,14 @@ mod draft;
 mod equations;
 mod goal_facts;
 mod laws;
+mod numbering;
 mod occurs;
+mod once;
 mod pruning;
 mod solving;
 mod substitution;
 mod tidying;
+mod touches;
 mod var_table;
 
 pub use draft::TooLarge;

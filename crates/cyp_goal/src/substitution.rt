@@ -7,7 +7,7 @@ ghost use Rattle.cyp_term.specs.Images.{image_elems, image_vars};
 ghost use Rattle.cyp_term.specs.Terms.{apply_lit, apply_set, apply_term, term_eq, var_eq, wide_lit, wide_set, wide_term, without_repeats};
 ghost use Rattle.cyp_term.specs.declared.subst.Subst.{Subst as TheSubst};
 
-use crate::equations::is_among;
+use crate::once::{is_among, is_term_among};
 use cyp_heap::{Arg, Chunk, Goal, Heap, Link};
 use cyp_term::{Fail, IntBind, List, Lit, SetBind, SetTerm, Subst, Term, TooWide, Var};
 use std::alloc::Global;
@@ -98,18 +98,6 @@ fn differ_vars(vars: &[Var]) -> bool
         }
     }
     true
-}
-
-fn same_term(a: Term, b: Term) -> bool
-    ensures { result ≡ term_eq a b }
-{
-    a.base() == b.base() && a.offset() == b.offset()
-}
-
-fn is_term_among(term: Term, terms: &[Term]) -> bool
-    ensures { result ≡ list_any (term_eq term) terms.now }
-{
-    terms.iter().any(|other| same_term(term, *other))
 }
 
 fn differ_terms(terms: &[Term]) -> bool

@@ -1,7 +1,8 @@
-ghost use Rattle.std.specs.Prelude.{◌≡◌, ◌+◌, ◌<◌, ◌≤◌, [], IfSome, MatchOption, false, get_or, length, replicate, set, true};
+ghost use Rattle.std.specs.Prelude.{◌≡◌, ◌+◌, ◌<◌, ◌≤◌, [], IfSome, MatchOption, false, get_or, length, not, replicate, set, true};
+ghost use Rattle.std.specs.List.{filter};
 ghost use Rattle.cyp_goal.specs.Numbering.{rank_in};
 ghost use Rattle.cyp_goal.specs.VarTables.{slot};
-ghost use Rattle.cyp_term.specs.Terms.{var_eq, var_in, with_new};
+ghost use Rattle.cyp_term.specs.Terms.{is_set_var, var_eq, var_in, with_new};
 
 use cyp_term::{Sort, Var};
 use std::marker::Model;
@@ -107,6 +108,20 @@ impl VarTable {
         ensures { result ≡ length self.now }
     {
         self.len
+    }
+
+    /// How many integers and cardinalities there are.
+    pub(crate) fn count_ints(&self) -> usize
+        ensures { result ≡ length (filter (λ v. not (is_set_var v)) self.now) }
+    {
+        self.ints.filled as usize + self.cards.filled as usize
+    }
+
+    /// How many sets there are.
+    pub(crate) fn count_sets(&self) -> usize
+        ensures { result ≡ length (filter is_set_var self.now) }
+    {
+        self.sets.filled as usize
     }
 
     /// Whether the variable is there.

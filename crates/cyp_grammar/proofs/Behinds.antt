@@ -3,7 +3,7 @@ use Rattle.std.proofs.Common.{◌≡◌, ℕ, Bool, true, false, List, [], ◌�
 use Rattle.cyp_grammar.specs.Lexemes.{Lexeme, Name, Said}
 use Rattle.cyp_grammar.specs.Spelling.{Mark, Then, ident, more_spelling}
 use Rattle.cyp_grammar.specs.declared.ident.Ident.{Ident}
-use Rattle.cyp_grammar.proofs.Readers.{Read}
+use Rattle.cyp_grammar.specs.Readers.{Read}
 use Rattle.cyp_grammar.proofs.Spellings.{then_split}
 use Rattle.cyp_grammar.proofs.Readings.{Reads}
 use Rattle.cyp_grammar.proofs.Singles.{one}

@@ -2,9 +2,10 @@
 use Rattle.std.proofs.Common.{◌≡◌, ℕ, suc, Bool, true, false, List, [], ◌∷◌, ◌++◌, ◌⊎◌, Result, Ok, Err, inl, inr, refl, sym, ap, subst, ◌∙◌, append_assoc, length, arith}
 use Rattle.cyp_grammar.specs.Beginnings.{Begins, Refused}
 use Rattle.cyp_grammar.specs.Lexemes.{Lexeme, Said}
-use Rattle.cyp_grammar.proofs.Readers.{AName, Read, Stop}
+use Rattle.cyp_grammar.specs.Readers.{Read, Stop, whole_of}
+use Rattle.cyp_grammar.specs.declared.want.Want.TheVariants.{AName}
 use Rattle.cyp_grammar.specs.Spelling.{Any, IsEnd, Mark, Match, Then}
-use Rattle.cyp_grammar.proofs.Stops.{IsReading, whole_of}
+use Rattle.cyp_grammar.proofs.Stops.{IsReading}
 use Rattle.cyp_grammar.proofs.Spellings.{head_is, then_join, then_put, then_split}
 use Rattle.cyp_grammar.proofs.Readings.{Next, Reads, SameHead, Sound, Stuck, Took}
 use Rattle.cyp_grammar.proofs.Lists.{made}

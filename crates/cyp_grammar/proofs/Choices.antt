@@ -2,7 +2,9 @@
 use Rattle.std.proofs.Common.{◌≡◌, ℕ, Bool, true, false, List, [], ◌∷◌, ◌++◌, Ok, Err, ◌⊎◌, inl, inr, refl, sym, ap, subst, length, ◌<◌}
 use Rattle.cyp_grammar.specs.Lexemes.{Lexeme, Name, Said}
 use Rattle.cyp_grammar.specs.Spelling.{IsEnd, Mark, Match, Then}
-use Rattle.cyp_grammar.proofs.Readers.{AName, IsNamed, NoName, Read, Want, either, either_by, heads, pick_by, ◌>>=◌}
+use Rattle.cyp_grammar.specs.Readers.{IsNamed, Read, either, either_by, heads, pick_by, ◌>>=◌}
+use Rattle.cyp_grammar.specs.declared.want.Want.{Want}
+use Rattle.cyp_grammar.specs.declared.want.Want.TheVariants.{AName, NoName}
 use Rattle.cyp_grammar.proofs.Spellings.{head_is, then_put}
 use Rattle.cyp_grammar.proofs.Readings.{Avoids, Bars, May, Next, Reads, Sound, Within, avoids_less, bars_next, next_append}
 

@@ -4,7 +4,8 @@ use Rattle.cyp_lex.specs.declared.token.Sign.{Sign}
 use Rattle.cyp_lex.specs.declared.token.Sign.TheVariants.{Comma}
 use Rattle.cyp_grammar.specs.Lexemes.{Lexeme, Said, Symbol}
 use Rattle.cyp_grammar.specs.Spelling.{Mark, separated, sign}
-use Rattle.cyp_grammar.proofs.Readers.{Enclosed, Read, Want, enclosed, enclosed_list, is_sign, one_of}
+use Rattle.cyp_grammar.specs.Readers.{Enclosed, Read, enclosed, enclosed_list, is_sign, one_of}
+use Rattle.cyp_grammar.specs.declared.want.Want.{Want}
 use Rattle.cyp_grammar.proofs.Readings.{Apart, Reads, Within, none, within_self}
 use Rattle.cyp_grammar.proofs.Singles.{one}
 use Rattle.cyp_grammar.proofs.Sequences.{both_reads, spell_both}

@@ -3,7 +3,8 @@ use Rattle.std.proofs.Common.{◌≡◌, ℕ, Bool, true, false, ◌||◌, List,
 use Rattle.cyp_grammar.specs.Lexemes.{Lexeme, Said}
 use Rattle.cyp_grammar.specs.Spelling.{Mark, Match, ident}
 use Rattle.cyp_grammar.specs.declared.ident.Ident.{Ident}
-use Rattle.cyp_grammar.proofs.Readers.{IsNamed, Read, Want, first_tells, heads, ident_of, one_of}
+use Rattle.cyp_grammar.specs.Readers.{IsNamed, Read, first_tells, heads, ident_of, one_of}
+use Rattle.cyp_grammar.specs.declared.want.Want.{Want}
 use Rattle.cyp_grammar.proofs.Spellings.{append_nil, match_join}
 use Rattle.cyp_grammar.proofs.Readings.{Apart, Reads, Within}
 use Rattle.cyp_grammar.proofs.Sequences.{spell_both}

@@ -6,13 +6,11 @@ pub mod Firsts
 pub mod Lists
 pub mod Mapped
 pub mod Options
-pub mod Readers
 pub mod Readings
 pub mod Repeats
 pub mod SameSigns
 pub mod Seconds
 pub mod Sequences
-pub mod SignTests
 pub mod Singles
 pub mod Spellings
 pub mod Stops

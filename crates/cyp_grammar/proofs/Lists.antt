@@ -2,7 +2,8 @@
 use Rattle.std.proofs.Common.{◌≡◌, ℕ, zero, suc, Bool, true, false, cond, List, [], ◌∷◌, Option, Some, None, refl, sym, ap, subst, length, arith}
 use Rattle.cyp_grammar.specs.Lexemes.{Lexeme, Name, Said}
 use Rattle.cyp_grammar.specs.Spelling.{Any, Mark, Match, Then, list_spelling, more_spelling}
-use Rattle.cyp_grammar.proofs.Readers.{NoName, Read, cons_of, kind_tells, listed, listing, token}
+use Rattle.cyp_grammar.specs.Readers.{Read, cons_of, kind_tells, listed, listing, token}
+use Rattle.cyp_grammar.specs.declared.want.Want.TheVariants.{NoName}
 use Rattle.cyp_grammar.proofs.Spellings.{append_nil, then_split}
 use Rattle.cyp_grammar.proofs.Readings.{none, Apart, Reads, Within}
 use Rattle.cyp_grammar.proofs.Sequences.{both_reads, spell_both}

@@ -2,7 +2,8 @@
 use Rattle.std.proofs.Common.{◌≡◌, ℕ, Bool, true, false, List, [], ◌∷◌, ◌++◌, Ok, Err, inl, inr, refl, sym, ap, subst, ◌∙◌}
 use Rattle.cyp_grammar.specs.Lexemes.{Lexeme, Name, Said}
 use Rattle.cyp_grammar.specs.Spelling.{IsEnd, Mark, Match, Then}
-use Rattle.cyp_grammar.proofs.Readers.{NoName, Read, closed, closed_by, heads, mapped, ◌>>=◌}
+use Rattle.cyp_grammar.specs.Readers.{Read, closed, closed_by, heads, mapped, ◌>>=◌}
+use Rattle.cyp_grammar.specs.declared.want.Want.TheVariants.{NoName}
 use Rattle.cyp_grammar.proofs.Spellings.{then_put}
 use Rattle.cyp_grammar.proofs.Readings.{Avoids, May, Next, Reads, Sound, Took, Within}
 

@@ -2,7 +2,9 @@
 use Rattle.std.proofs.Common.{◌≡◌, ℕ, suc, Bool, true, false, List, [], ◌∷◌, ◌++◌, Ok, Err, ◌⊎◌, inl, inr, refl, ap, length, ◌<◌, arith, length-append}
 use Rattle.cyp_grammar.specs.Lexemes.{Lexeme, Name, Said}
 use Rattle.cyp_grammar.specs.Spelling.{Mark, Match, Then}
-use Rattle.cyp_grammar.proofs.Readers.{AName, IsNamed, NoName, Read, Stop, Want, heads}
+use Rattle.cyp_grammar.specs.Readers.{IsNamed, Read, Stop, heads}
+use Rattle.cyp_grammar.specs.declared.want.Want.{Want}
+use Rattle.cyp_grammar.specs.declared.want.Want.TheVariants.{AName, NoName}
 use Rattle.cyp_grammar.proofs.Spellings.{head_is}
 
 abbrev pub SameHead : List Lexeme → List Lexeme → Type 0

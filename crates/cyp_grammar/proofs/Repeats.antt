@@ -2,7 +2,8 @@
 use Rattle.std.proofs.Common.{◌≡◌, ℕ, zero, suc, Bool, true, List, [], ◌∷◌, ◌++◌, ◌⊎◌, inl, inr, refl, subst, append_assoc, length, arith}
 use Rattle.cyp_grammar.specs.Lexemes.{Lexeme, Said}
 use Rattle.cyp_grammar.specs.Spelling.{Mark, Then, all_spelling}
-use Rattle.cyp_grammar.proofs.Readers.{Read, Want, one_of, repeated, repeated_tree, repeating}
+use Rattle.cyp_grammar.specs.Readers.{Read, one_of, repeated, repeated_tree, repeating}
+use Rattle.cyp_grammar.specs.declared.want.Want.{Want}
 use Rattle.cyp_grammar.proofs.Spellings.{then_split}
 use Rattle.cyp_grammar.proofs.Readings.{Apart, Reads, within_self}
 use Rattle.cyp_grammar.proofs.Sequences.{spell_both, then_reads}

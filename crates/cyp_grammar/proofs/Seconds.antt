@@ -2,7 +2,8 @@
 use Rattle.std.proofs.Common.{◌≡◌, ℕ, Bool, true, false, cond, not, List, [], ◌∷◌, ◌⊎◌, inl, inr, refl, ap, ◌∙◌}
 use Rattle.cyp_grammar.specs.Lexemes.{Lexeme, Name, Said}
 use Rattle.cyp_grammar.specs.Spelling.{Mark, Then}
-use Rattle.cyp_grammar.proofs.Readers.{IsNamed, Read, Want, heads, is_name, left_by_second, one_of, second_tells}
+use Rattle.cyp_grammar.specs.Readers.{IsNamed, Read, heads, is_name, left_by_second, one_of, second_tells}
+use Rattle.cyp_grammar.specs.declared.want.Want.{Want}
 use Rattle.cyp_grammar.proofs.Spellings.{head_is}
 use Rattle.cyp_grammar.proofs.Readings.{Apart, Next, Reads, Within, no_start}
 use Rattle.cyp_grammar.proofs.Choices.{IsChoice, SaysStart, either_reads, spell_either}

@@ -2,7 +2,7 @@
 use Rattle.std.proofs.Common.{◌≡◌, ℕ, suc, Bool, List, [], ◌∷◌, ◌++◌, Ok, Err, sym, ap, subst, ◌∙◌, append_assoc, length, ◌<◌, arith, length-append}
 use Rattle.cyp_grammar.specs.Lexemes.{Lexeme, Said}
 use Rattle.cyp_grammar.specs.Spelling.{IsEnd, Mark, Match, Then}
-use Rattle.cyp_grammar.proofs.Readers.{Read, both, ◌>>=◌}
+use Rattle.cyp_grammar.specs.Readers.{Read, both, ◌>>=◌}
 use Rattle.cyp_grammar.proofs.Spellings.{match_join, nil_left, then_join, then_put, then_split}
 use Rattle.cyp_grammar.proofs.Readings.{Apart, Next, Reads, Sound, Took, bars_next, less_reads, next_append, shorter}
 

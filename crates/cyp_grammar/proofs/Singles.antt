@@ -2,7 +2,9 @@
 use Rattle.std.proofs.Common.{◌≡◌, ℕ, Bool, true, List, [], ◌∷◌, ◌++◌, Option, Some, None, inl, inr, refl, sym, ap, subst, ◌∙◌}
 use Rattle.cyp_grammar.specs.Lexemes.{Lexeme, Said}
 use Rattle.cyp_grammar.specs.Spelling.{Fits, Mark, Then}
-use Rattle.cyp_grammar.proofs.Readers.{AName, IsNamed, NoName, Want, single, token_or}
+use Rattle.cyp_grammar.specs.Readers.{IsNamed, single, token_or}
+use Rattle.cyp_grammar.specs.declared.want.Want.{Want}
+use Rattle.cyp_grammar.specs.declared.want.Want.TheVariants.{AName, NoName}
 use Rattle.cyp_grammar.proofs.Spellings.{head_is}
 use Rattle.cyp_grammar.proofs.Readings.{Bars, May, Reads, Sound}
 

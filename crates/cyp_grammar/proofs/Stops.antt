@@ -3,7 +3,8 @@ use Rattle.std.specs.Prelude.{Err, List, Ok, Result, [], length, ◌++◌, ◌�
 use Rattle.cyp_grammar.specs.Lexemes.{Lexeme}
 use Rattle.cyp_grammar.specs.Spelling.{Mark, Match}
 use Rattle.cyp_grammar.specs.Beginnings.{Begins, Refused}
-use Rattle.cyp_grammar.proofs.Readers.{AName, IsNamed, NoName, Read, Stop, ◌>>=◌}
+use Rattle.cyp_grammar.specs.Readers.{IsNamed, Stop}
+use Rattle.cyp_grammar.specs.declared.want.Want.TheVariants.{AName, NoName}
 
 -- the stop is at the first lexeme that is refused, and says whether a name is allowed in its place
 pub record IsStop (A : Type 0) (spell : A → List Mark) (ts : List Lexeme) (s : Stop) : Type 0 where
@@ -20,11 +21,3 @@ pub record IsStop (A : Type 0) (spell : A → List Mark) (ts : List Lexeme) (s :
 abbrev pub IsReading : {A : Type 0} → (A → List Mark) → List Lexeme → Result A Stop → Type 0
 IsReading {A} spell ts (Ok x) = Match (spell x) ts × ((y : A) → Match (spell y) ts → y ≡ x)
 IsReading {A} spell ts (Err s) = IsStop A spell ts s
-
-abbrev pub end_by : {A : Type 0} → A → List Lexeme → Result A Stop
-end_by x [] = Ok x
-end_by x (t ∷ us) = Err (record { want = NoName; left = length (t ∷ us) })
-
--- reads all of the lexemes
-abbrev pub whole_of : {A : Type 0} → (List Lexeme → Read A) → List Lexeme → Result A Stop
-whole_of p ts = p ts >>= λ x. end_by x.0 x.1

@@ -5,7 +5,9 @@ use Rattle.cyp_lex.specs.declared.token.Word.{Word}
 use Rattle.cyp_grammar.specs.Lexemes.{Lexeme, Name, Number, Reserved, Said, Symbol}
 use Rattle.cyp_grammar.specs.Spelling.{Any, At, Mark, ident}
 use Rattle.cyp_grammar.specs.declared.ident.Ident.{Ident}
-use Rattle.cyp_grammar.proofs.Readers.{AName, NoName, Read, Want, ident_of, ident_token, is_name, is_number, is_sign, is_there, is_word, listing, name_of, number_of, number_token, place_if, placed, placed_by, placed_number, plainly, sign_place, sign_token, single, telling, word_place, word_token}
+use Rattle.cyp_grammar.specs.Readers.{Read, ident_of, ident_token, is_name, is_number, is_sign, is_there, is_word, listing, name_of, number_of, number_token, place_if, placed, placed_by, placed_number, plainly, sign_place, sign_token, single, telling, word_place, word_token}
+use Rattle.cyp_grammar.specs.declared.want.Want.{Want}
+use Rattle.cyp_grammar.specs.declared.want.Want.TheVariants.{AName, NoName}
 use Rattle.cyp_grammar.proofs.SameSigns.{sign_is, sign_self, word_is, word_self}
 use Rattle.cyp_grammar.proofs.Readings.{Apart, Reads, Within}
 use Rattle.cyp_grammar.proofs.Singles.{IsSingle, Says, one, single_reads, some_is, some_of}

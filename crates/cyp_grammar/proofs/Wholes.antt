@@ -2,11 +2,13 @@
 use Rattle.std.proofs.Common.{◌≡◌, ℕ, suc, Bool, List, [], ◌∷◌, ◌++◌, Result, Ok, Err, inl, inr, refl, sym, ap, subst, ◌∙◌, append_assoc, length, arith}
 use Rattle.cyp_grammar.specs.Lexemes.{Lexeme, Said}
 use Rattle.cyp_grammar.specs.Spelling.{IsEnd, Mark, Match}
-use Rattle.cyp_grammar.proofs.Readers.{AName, NoName, Read, Stop, Want, ◌>>=◌}
+use Rattle.cyp_grammar.specs.Readers.{Read, Stop, end_by, whole_of, ◌>>=◌}
+use Rattle.cyp_grammar.specs.declared.want.Want.{Want}
+use Rattle.cyp_grammar.specs.declared.want.Want.TheVariants.{AName, NoName}
 use Rattle.cyp_grammar.proofs.Spellings.{append_nil}
 use Rattle.cyp_grammar.proofs.Readings.{Avoids, Bars, May, Next, Reads, Sound, Stuck, Took}
 use Rattle.cyp_grammar.specs.Beginnings.{Begins, Refused}
-use Rattle.cyp_grammar.proofs.Stops.{IsReading, IsStop, end_by, whole_of}
+use Rattle.cyp_grammar.proofs.Stops.{IsReading, IsStop}
 
 end_avoids : (f : Said → Bool) → Avoids f IsEnd
 end_avoids f t w k = absurd cc

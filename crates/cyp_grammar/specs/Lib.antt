@@ -1,3 +1,5 @@
-pub mod Lexemes
-pub mod Spelling
 pub mod Beginnings
+pub mod Lexemes
+pub mod Readers
+pub mod SignTests
+pub mod Spelling

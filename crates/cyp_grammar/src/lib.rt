@@ -2,5 +2,7 @@
 #![tactic(auto)]
 
 mod ident;
+mod want;
 
 pub use ident::Ident;
+pub use want::Want;

@@ -10,9 +10,10 @@ use Rattle.cyp_grammar.proofs.Spellings.{then_join, then_put, then_split}
 use Rattle.cyp_grammar.proofs.Wholes.{whole_reads}
 use Rattle.cyp_grammar.specs.Beginnings.{Refused}
 use Rattle.cyp_grammar.specs.Lexemes.{Lexeme, Name, Said}
-use Rattle.cyp_grammar.proofs.Readers.{AName, NoName, Read, Stop, Want, is_word}
+use Rattle.cyp_grammar.specs.Readers.{Read, Stop, is_word, whole_of}
+use Rattle.cyp_grammar.specs.declared.want.Want.{Want}
+use Rattle.cyp_grammar.specs.declared.want.Want.TheVariants.{AName, NoName}
 use Rattle.cyp_grammar.specs.Spelling.{IsEnd, Mark, Match, Then}
-use Rattle.cyp_grammar.proofs.Stops.{whole_of}
 use Rattle.cyp_lex.specs.declared.token.Word.TheVariants.{Void}
 use Rattle.cyp_machine.proofs.LineLaws.{line_reads}
 use Rattle.cyp_machine.specs.RunInput.{InputTree, StartTree, input_spelling, line_spelling, start_spelling}

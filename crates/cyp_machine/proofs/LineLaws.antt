@@ -10,7 +10,8 @@ use Rattle.cyp_grammar.proofs.Sequences.{both_reads, spell_both}
 use Rattle.cyp_grammar.proofs.Singles.{one}
 use Rattle.cyp_grammar.proofs.Tellers.{ident_reads, placed_mark, placed_number_reads, sign_listing_reads, sign_mark, sign_reads, word_mark, word_reads}
 use Rattle.cyp_grammar.specs.Lexemes.{Number, Reserved, Symbol}
-use Rattle.cyp_grammar.proofs.Readers.{NoName, is_name, is_number, is_sign, is_word, one_of}
+use Rattle.cyp_grammar.specs.Readers.{is_name, is_number, is_sign, is_word, one_of}
+use Rattle.cyp_grammar.specs.declared.want.Want.TheVariants.{NoName}
 use Rattle.cyp_grammar.specs.Spelling.{Mark, ident, sign}
 use Rattle.cyp_lex.specs.declared.token.Sign.TheVariants.{Comma, LeftBrace, LeftBracket, LeftParen, Minus, PointsTo, RightBrace, RightBracket, RightParen, TwoStars}
 use Rattle.cyp_lex.specs.declared.token.Word.TheVariants.{Emp}

@@ -3,7 +3,7 @@ use Rattle.std.proofs.Common.{◌≡◌, ◌++◌, ◌∙◌, ◌⊎◌, Bool, E
 use Rattle.std.proofs.lemmas.Bool.{leb-false, leb-true}
 use Rattle.cyp_grammar.specs.Beginnings.{Begins, Refused}
 use Rattle.cyp_grammar.specs.Lexemes.{Lexeme, Reserved, Said}
-use Rattle.cyp_grammar.proofs.Readers.{Stop}
+use Rattle.cyp_grammar.specs.Readers.{Stop}
 use Rattle.cyp_grammar.specs.Spelling.{Mark, Match}
 use Rattle.cyp_grammar.proofs.Stops.{IsReading}
 use Rattle.cyp_lex.specs.Lexing.{program_tokens_of}

@@ -2,7 +2,9 @@
 use Rattle.std.proofs.Common.{◌≡◌, ◌∙◌, Err, List, Ok, [], ◌∷◌, arith, inl, length, refl, subst, suc, sym, Bool, ℕ}
 use Rattle.cyp_grammar.proofs.Readings.{Avoids, Bars, Reads, SameHead, Sound}
 use Rattle.cyp_grammar.specs.Lexemes.{Lexeme, Said}
-use Rattle.cyp_grammar.proofs.Readers.{AName, NoName, Read, Want}
+use Rattle.cyp_grammar.specs.Readers.{Read}
+use Rattle.cyp_grammar.specs.declared.want.Want.{Want}
+use Rattle.cyp_grammar.specs.declared.want.Want.TheVariants.{AName, NoName}
 use Rattle.cyp_grammar.specs.Spelling.{IsEnd, Mark, Then}
 
 -- the rest of the lexemes is allowed by both

@@ -10,7 +10,8 @@ use Rattle.cyp_grammar.proofs.Sequences.{both_reads, spell_both}
 use Rattle.cyp_grammar.proofs.Singles.{one, some_is}
 use Rattle.cyp_grammar.proofs.Tellers.{Tells, number_mark, number_token_reads, placed_mark, placed_number_reads, placed_reads, plainly_reads, sign_mark, sign_reads, word_mark, word_reads}
 use Rattle.cyp_grammar.specs.Lexemes.{Number, Said, Symbol, Variable}
-use Rattle.cyp_grammar.proofs.Readers.{NoName, is_number, is_sign, is_word, one_of}
+use Rattle.cyp_grammar.specs.Readers.{is_number, is_sign, is_word, one_of}
+use Rattle.cyp_grammar.specs.declared.want.Want.TheVariants.{NoName}
 use Rattle.cyp_grammar.specs.Spelling.{Any, At, Mark}
 use Rattle.cyp_lex.specs.declared.token.Sign.TheVariants as signs
 use Rattle.cyp_lex.specs.declared.token.Word.TheVariants.{Malloc}

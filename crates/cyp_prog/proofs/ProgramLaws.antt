@@ -9,9 +9,10 @@ use Rattle.cyp_grammar.proofs.Singles.{one}
 use Rattle.cyp_grammar.proofs.Tellers.{ident_reads, sign_mark, sign_reads, word_mark, word_reads}
 use Rattle.cyp_grammar.proofs.Wholes.{whole_reads}
 use Rattle.cyp_grammar.specs.Lexemes.{Lexeme, Symbol, Variable}
-use Rattle.cyp_grammar.proofs.Readers.{NoName, is_sign, is_word, one_of}
+use Rattle.cyp_grammar.specs.Readers.{is_sign, is_word, one_of, whole_of}
+use Rattle.cyp_grammar.specs.declared.want.Want.TheVariants.{NoName}
 use Rattle.cyp_grammar.specs.Spelling.{IsEnd, Mark, Match, Then, ident, sign, word}
-use Rattle.cyp_grammar.proofs.Stops.{IsReading, whole_of}
+use Rattle.cyp_grammar.proofs.Stops.{IsReading}
 use Rattle.cyp_lex.specs.declared.token.Sign.TheVariants.{Comma, LeftBrace, LeftParen, RightParen}
 use Rattle.cyp_lex.specs.declared.token.Word.TheVariants.{Void}
 use Rattle.cyp_prog.proofs.Exact.{end_avoids, reads_exact}

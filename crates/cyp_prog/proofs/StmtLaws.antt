@@ -10,7 +10,8 @@ use Rattle.cyp_grammar.proofs.Singles.{one}
 use Rattle.cyp_grammar.proofs.Spellings.{then_split}
 use Rattle.cyp_grammar.proofs.Tellers.{ident_reads, sign_mark, sign_reads, word_mark, word_reads}
 use Rattle.cyp_grammar.specs.Lexemes.{Lexeme, Name, Reserved, Symbol}
-use Rattle.cyp_grammar.proofs.Readers.{AName, IsNamed, NoName, Read, ident_of, is_name, is_sign, is_word}
+use Rattle.cyp_grammar.specs.Readers.{IsNamed, Read, ident_of, is_name, is_sign, is_word}
+use Rattle.cyp_grammar.specs.declared.want.Want.TheVariants.{AName, NoName}
 use Rattle.cyp_grammar.specs.Spelling.{Mark, Match, Then, ident, sign, word}
 use Rattle.cyp_lex.specs.declared.token.Sign.TheVariants.{Assign, LeftBrace, LeftParen, RightBrace, RightParen, Semicolon, Star}
 use Rattle.cyp_lex.specs.declared.token.Word.TheVariants.{Else, Error, Free, If, Let}

@@ -2,7 +2,8 @@
 use Rattle.std.specs.Prelude.{Bool, List, Option, None, Some, [], length, suc, zero, ◌∷◌, ◌⊎◌, ℕ}
 use Rattle.std.proofs.Common.{inl, inr}
 use Rattle.cyp_grammar.specs.Lexemes.{Lexeme, Said}
-use Rattle.cyp_grammar.proofs.Readers.{AName, NoName, Read, both, enclosed, first_tells, ident_token, is_name, is_sign, is_word, mapped, one_of, option_after, sign_token, stop, word_token}
+use Rattle.cyp_grammar.specs.Readers.{Read, both, enclosed, first_tells, ident_token, is_name, is_sign, is_word, mapped, one_of, option_after, sign_token, stop, word_token}
+use Rattle.cyp_grammar.specs.declared.want.Want.TheVariants.{AName, NoName}
 use Rattle.cyp_grammar.specs.declared.ident.Ident.{Ident}
 use Rattle.cyp_lex.specs.declared.token.Sign.TheVariants.{Assign, LeftBrace, LeftParen, RightBrace, RightParen, Semicolon, Star}
 use Rattle.cyp_lex.specs.declared.token.Word.TheVariants.{Else, Error, Free, If, Let, Void}

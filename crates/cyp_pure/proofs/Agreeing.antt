@@ -32,6 +32,7 @@ zip_push (w ∷ xs) [] x y h e = ap₂ (λ u us. (u, y) ∷ us) (sym e) (zip_nil
 zip_push (w ∷ xs) (v ∷ ys) x y h e = ap (λ us. (w, v) ∷ us) (zip_push xs ys x y (omega arith) e)
 
 -- ---- agreement of each two
+-- the values of the two terms are equal exactly where their classes are
 abbrev Alike : (Term → ℤ) → Term × ℕ → Term × ℕ → Type 0
 Alike val p q = (val p.0 ≡ val q.0) ↔ (p.1 ≡ q.1)
 

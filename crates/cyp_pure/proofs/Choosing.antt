@@ -13,10 +13,11 @@ use Rattle.cyp_pure.specs.Dealing.{Agrees, CanDeal}
 use Rattle.cyp_pure.proofs.Agreeing.{agrees_at, agrees_less, agrees_more, zip_push, zip_right}
 use Rattle.cyp_pure.proofs.Alls.{all_among}
 
--- some of the terms has the value, or none has
+-- some of the terms has the value
 abbrev SomeHas : (Term → ℤ) → List (Term × ℕ) → ℤ → Type 0
 SomeHas val ps z = (p : Term × ℕ) × Among p ps × (val p.0 ≡ z)
 
+-- none of the terms has the value
 abbrev NoneHas : (Term → ℤ) → List (Term × ℕ) → ℤ → Type 0
 NoneHas val ps z = (p : Term × ℕ) → Among p ps → val p.0 ≡ z → ⊥
 

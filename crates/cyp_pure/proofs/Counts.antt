@@ -15,9 +15,11 @@ use Rattle.cyp_pure.proofs.Adding.{added_two}
 
 -- ---- variables of integers and of sets
 
+-- how many variables aren't sets
 abbrev numbers_of : List Var → ℕ
 numbers_of vs = length (filter (λ v. not (is_set_var v)) vs)
 
+-- how many variables are sets
 abbrev sets_of : List Var → ℕ
 sets_of vs = length (filter is_set_var vs)
 

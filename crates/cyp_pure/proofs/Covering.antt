@@ -20,9 +20,11 @@ use Rattle.cyp_pure.proofs.Sorted.{elem_var, int_var, negated_elements, negated_
 use Rattle.cyp_pure.proofs.Starting.{same_elements}
 
 -- ---- what fits
+-- the variables of both lists, each once
 all_vars : List Lit → List Lit → List Var
 all_vars a b = without_repeats var_eq (lits_vars (a ++ b))
 
+-- both lists together are within the limits of variables and of element terms
 record Limits (a b : List Lit) : Type 0 where
   numbers : length (filter (λ v. not (is_set_var v)) (all_vars a b)) ≤ 32
   sets : length (filter is_set_var (all_vars a b)) ≤ 12
@@ -43,6 +45,7 @@ limits a b h =
     record { numbers = leb-true _ 32 v.0; sets = leb-true _ 12 v.1; terms = leb-true _ 6 u.1 }
 
 -- ---- a literal that two lists cover
+-- its variables are of their sorts, and among those of the lists; so are its element terms
 pub record Covered (a b : List Lit) (l : Lit) : Type 0 where
   pub sorts : HasSorts l
   pub vars : (v : Var) → Among v (lit_vars l) → Among v (lits_vars (a ++ b))

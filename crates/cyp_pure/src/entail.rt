@@ -107,7 +107,7 @@ fn follows(
     Ok(!can_be_false(alloc, parted, lit, is_int)?)
 }
 
-/// Whether some integers and finite sets make all the literals true.
+/// Whether some integers and finite sets make all the literals true, of a list that fits.
 pub fn satisfiable(alloc: Global, a: &[Lit]) -> Result<bool, NoMemory>
     requires { IsTrue (fits a.now []) }
     ensures exact { IfOk result (λ r. IsTrue r ↔ Satisfiable a.now) }
@@ -117,7 +117,7 @@ pub fn satisfiable(alloc: Global, a: &[Lit]) -> Result<bool, NoMemory>
     can_be_true(alloc, &parted, &[], &[])
 }
 
-/// Whether each assignment that makes all of `a` true makes all of `b` true.
+/// Whether each assignment that makes all of `a` true makes all of `b` true, of lists that fit together.
 pub fn entails(alloc: Global, a: &[Lit], b: &[Lit]) -> Result<bool, NoMemory>
     requires { IsTrue (fits a.now b.now) }
     ensures exact { IfOk result (λ r. IsTrue r ↔ Entails a.now b.now) }

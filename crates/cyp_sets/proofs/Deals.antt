@@ -178,3 +178,10 @@ pub put_back : (lists fewer again back : List (List ℕ)) (i : ℕ) (x y : List 
 put_back lists fewer again back i x y is e f g =
     let was : x ≡ get_or lists i [] = sym (ap (λ o. unwrap_or o []) is) ∙ unwrap_or-slice_get lists i [] in
     g ∙ ap₂ (λ ls z. set ls i z) (f ∙ e) was ∙ set-set lists i y (get_or lists i []) ∙ set-get_or lists i []
+
+-- the want that is taken out, and the rest
+pub taken_is : (ws items : List Want) (k : ℕ) (want : Want) → want ≡ get_or items k want → items ≡ ws → want ≡ get_or ws k want
+taken_is ws items k want is e = is ∙ ap (λ vs. get_or vs k want) e
+
+pub rest_is : (ws items new seen : List Want) (k : ℕ) → seen ≡ new → new ≡ remove items k → items ≡ ws → seen ≡ remove ws k
+rest_is ws items new seen k es en e = es ∙ en ∙ ap (λ vs. remove vs k) e

@@ -1,3 +1,4 @@
+pub mod Asking
 pub mod Dealing
 pub mod Masks
 pub mod Names

@@ -1,9 +1,8 @@
 -- When rules and wants over masks say what set literals say.
-use Rattle.std.specs.Prelude.{◌≡◌, true, false, List, [], ◌∷◌, ◌++◌, Contains, IsTrue}
-use Rattle.std.specs.List.{All, list_all}
+use Rattle.std.specs.Prelude.{◌≡◌, true, List, [], ◌∷◌, ◌++◌, Contains, IsTrue}
+use Rattle.std.specs.List.{list_all}
 use Rattle.cyp_term.specs.declared.lit.Lit.{Lit}
 use Rattle.cyp_term.specs.declared.lit.Lit.TheVariants.{Same, NotSame, Member, NotMember, Sub, NotSub}
-use Rattle.cyp_term.specs.Integers.{is_int_lit}
 use Rattle.cyp_term.specs.Regions.{Spot, allows, is_shown, term_in}
 use Rattle.cyp_sets.specs.declared.masks.Mask.{Mask}
 use Rattle.cyp_sets.specs.declared.masks.Rule.{Rule}
@@ -43,7 +42,3 @@ pub record Says (n : Named) (ls : List Lit) (rules : List Rule) (wants : List Wa
 abbrev pub Adds : Saying → List Rule → List Want → List Rule → List Want → Type 0
 Adds (OfEach rule) rules wants rules' wants' = (rules' ≡ rules ++ rule ∷ []) × (wants' ≡ wants)
 Adds (OfSome want) rules wants rules' wants' = (wants' ≡ wants ++ want ∷ []) × (rules' ≡ rules)
-
--- each literal compares sets, or an integer with a set
-abbrev pub AreSets : List Lit → Type 0
-AreSets ls = All (λ l. is_int_lit l ≡ false) ls

@@ -3,7 +3,7 @@ ghost use Rattle.std.specs.List.{All};
 ghost use Rattle.cyp_sets.specs.Dealing.{Deals, DealsFrom, shown_in, ways_to_show};
 
 use crate::masks::Want;
-use crate::region_lists::{is_shown_in, regions_with, regions_without};
+use crate::region_lists::{is_shown_in, regions_showing, regions_hiding};
 use cyp_term::{List, NoMemory};
 use std::alloc::Global;
 
@@ -113,8 +113,8 @@ fn deal_from(
         return Ok(false);
     }
     let regions = lists.as_slice()[place].as_slice();
-    let shown = regions_with(alloc, want, regions, 1 << place)?;
-    let others = regions_without(alloc, want, regions, 1 << place)?;
+    let shown = regions_showing(alloc, want, regions, 1 << place)?;
+    let others = regions_hiding(alloc, want, regions, 1 << place)?;
     if deal_with(alloc, place, shown, rest, lists)? {
         return Ok(true);
     }

@@ -35,7 +35,7 @@ pub(crate) fn regions_of(
 }
 
 /// Those of the regions in which an integer of these classes is what is wanted.
-pub(crate) fn regions_with(
+pub(crate) fn regions_showing(
     alloc: Global,
     want: Want,
     regions: &[u16],
@@ -55,7 +55,7 @@ pub(crate) fn regions_with(
 }
 
 /// Those of the regions in which an integer of these classes isn't what is wanted.
-pub(crate) fn regions_without(
+pub(crate) fn regions_hiding(
     alloc: Global,
     want: Want,
     regions: &[u16],

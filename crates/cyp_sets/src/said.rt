@@ -2,7 +2,8 @@ ghost use Rattle.std.specs.Prelude.{◌≡◌, false, List, ◌∷◌, ◌++◌,
 ghost use Rattle.std.specs.List.{All};
 ghost use Rattle.cyp_term.specs.declared.lit.Lit.{Lit};
 ghost use Rattle.cyp_term.specs.Integers.{is_int_lit};
-ghost use Rattle.cyp_sets.specs.Saying.{Adds, AreSets, LitHasPlaces, Says, SaysLit};
+ghost use Rattle.cyp_sets.specs.Asking.{AreSets};
+ghost use Rattle.cyp_sets.specs.Saying.{Adds, LitHasPlaces, Says, SaysLit};
 
 use crate::masks::{Rule, Saying, Want};
 use crate::names::Names;

@@ -1,7 +1,7 @@
 ghost use Rattle.std.specs.Prelude.{◌≡◌, ℕ, ◌≤◌, ◌++◌, ◌↔◌, pos, IfOk, IsTrue, length};
 ghost use Rattle.cyp_term.specs.Regions.{HasSets, all_set_vars, all_terms, class_by, regions_fit};
+ghost use Rattle.cyp_sets.specs.Asking.{AreSets};
 ghost use Rattle.cyp_sets.specs.Dealing.{Fits};
-ghost use Rattle.cyp_sets.specs.Saying.{AreSets};
 
 use crate::dealing::deal;
 use crate::names::Names;

@@ -4,7 +4,8 @@ use Rattle.cyp_lex.specs.declared.token.Sign.TheVariants.{LeftBrace, Minus, Plus
 use Rattle.cyp_grammar.specs.Lexemes.{Symbol}
 use Rattle.cyp_grammar.specs.Spelling.{Mark, ident}
 use Rattle.cyp_grammar.specs.declared.ident.Ident.{Ident}
-use Rattle.cyp_grammar.proofs.Readers.{NoName, is_name, is_sign}
+use Rattle.cyp_grammar.specs.Readers.{is_name, is_sign}
+use Rattle.cyp_grammar.specs.declared.want.Want.TheVariants.{NoName}
 use Rattle.cyp_grammar.proofs.Readings.{Apart, Reads, Within, apart_none, less_reads, none, nowhere, within_self}
 use Rattle.cyp_grammar.proofs.Singles.{one}
 use Rattle.cyp_grammar.proofs.Sequences.{both_reads, spell_both}
@@ -19,8 +20,8 @@ use Rattle.cyp_spec.specs.declared.tree.IntTree.{IntTree}
 use Rattle.cyp_spec.specs.declared.tree.IntTree.TheVariants.{MinusNum, NameMinus, NamePlus, Named, Num, NumPlus}
 use Rattle.cyp_spec.specs.declared.tree.PartTree.{PartTree}
 use Rattle.cyp_spec.specs.Grammar.{arg_spelling}
-use Rattle.cyp_spec.proofs.TermReaders.{Inner, begins_int, begins_other, is_sum}
-use Rattle.cyp_spec.proofs.ChunkReaders.{AnyArg, ArgTail, BracesUnion, MoreParts, NameArg, OtherArg, TermOrName, arg_at, arg_tail, arg_tree, begins_arg, braces_union, is_arg_tail, more_parts, name_arg, other_arg, term_or_name}
+use Rattle.cyp_spec.specs.TermReaders.{Inner, begins_int, begins_other, is_sum}
+use Rattle.cyp_spec.specs.ChunkReaders.{AnyArg, ArgTail, BracesUnion, MoreParts, NameArg, OtherArg, TermOrName, arg_at, arg_tail, arg_tree, begins_arg, braces_union, is_arg_tail, more_parts, name_arg, other_arg, term_or_name}
 use Rattle.cyp_spec.proofs.IntLaws.{minus_name, minus_reads, minus_spelling, number_other, number_reads, number_spelling, sum_sign_mark, sum_sign_reads}
 use Rattle.cyp_spec.proofs.SetLaws.{braced_spelling, braces_reads, inner_of, parts_listed, parts_reads}
 use Rattle.cyp_spec.proofs.LitLaws.{int_ends_in, lit_ends, pluses_in}

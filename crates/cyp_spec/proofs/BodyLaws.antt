@@ -4,7 +4,7 @@ use Rattle.cyp_lex.specs.declared.token.Sign.TheVariants.{LeftBrace, LeftBracket
 use Rattle.cyp_lex.specs.declared.token.Word.TheVariants.{Emp}
 use Rattle.cyp_grammar.specs.Lexemes.{Name, Reserved, Symbol}
 use Rattle.cyp_grammar.specs.Spelling.{Mark}
-use Rattle.cyp_grammar.proofs.Readers.{both, is_sign}
+use Rattle.cyp_grammar.specs.Readers.{both, is_sign}
 use Rattle.cyp_grammar.proofs.Readings.{Apart, Reads, apart_none, none, within_self}
 use Rattle.cyp_grammar.proofs.Singles.{one}
 use Rattle.cyp_grammar.proofs.Sequences.{both_reads, spell_both}
@@ -19,9 +19,9 @@ use Rattle.cyp_spec.specs.declared.tree.ChunkTree.{ChunkTree}
 use Rattle.cyp_spec.specs.declared.tree.PureTree.{PureTree}
 use Rattle.cyp_spec.specs.declared.tree.PureTree.TheVariants.{Items, NoItems}
 use Rattle.cyp_spec.specs.Grammar.{body_spelling, heap_spelling, in_braces}
-use Rattle.cyp_spec.proofs.ChunkReaders.{begins_heap, heap_at, is_chunk_tail}
-use Rattle.cyp_spec.proofs.BodyReaders.{AnyBody, SomeItems, begins_body, begins_item, body_at, body_tree, items_at}
-use Rattle.cyp_spec.proofs.TextReaders.{InBraces, braced_at, braced_tree}
+use Rattle.cyp_spec.specs.ChunkReaders.{begins_heap, heap_at, is_chunk_tail}
+use Rattle.cyp_spec.specs.BodyReaders.{AnyBody, SomeItems, begins_body, begins_item, body_at, body_tree, items_at}
+use Rattle.cyp_spec.specs.TextReaders.{InBraces, braced_at, braced_tree}
 use Rattle.cyp_spec.proofs.LitLaws.{is_lit_tail}
 use Rattle.cyp_spec.proofs.ChunkLaws.{heap_leads, heap_ends, heap_reads, name_heap}
 use Rattle.cyp_spec.proofs.ItemLaws.{items_leads, items_reads, items_spelling}

@@ -5,7 +5,8 @@ use Rattle.cyp_lex.specs.declared.token.Word.TheVariants.{Emp}
 use Rattle.cyp_grammar.specs.Lexemes.{Name, Reserved, Said, Symbol}
 use Rattle.cyp_grammar.specs.Spelling.{Mark, ident}
 use Rattle.cyp_grammar.specs.declared.ident.Ident.{Ident}
-use Rattle.cyp_grammar.proofs.Readers.{AName, NoName, is_name, is_sign, is_word, one_of}
+use Rattle.cyp_grammar.specs.Readers.{is_name, is_sign, is_word, one_of}
+use Rattle.cyp_grammar.specs.declared.want.Want.TheVariants.{AName, NoName}
 use Rattle.cyp_grammar.proofs.Readings.{Apart, Reads, Within, apart_none, none, nowhere, within_self}
 use Rattle.cyp_grammar.proofs.Singles.{one}
 use Rattle.cyp_grammar.proofs.Sequences.{both_reads, spell_both}
@@ -21,7 +22,7 @@ use Rattle.cyp_spec.specs.declared.tree.ChunkTree.{ChunkTree}
 use Rattle.cyp_spec.specs.declared.tree.ChunkTree.TheVariants.{BlockOf, InstanceOf, NamedCell, TermCell}
 use Rattle.cyp_spec.specs.declared.tree.IntTree.{IntTree}
 use Rattle.cyp_spec.specs.Grammar.{arg_spelling, chunk_spelling, heap_spelling, int_spelling}
-use Rattle.cyp_spec.proofs.ChunkReaders.{AnyChunk, BlockChunk, ChunkTail, TermChunk, args_at, begins_arg, begins_chunk, begins_heap, begins_shape, block_chunk, chunk_at, chunk_tail, chunk_tree, chunks_at, heap_at, heap_tree, is_chunk_tail, shape_chunk, term_chunk}
+use Rattle.cyp_spec.specs.ChunkReaders.{AnyChunk, BlockChunk, ChunkTail, TermChunk, args_at, begins_arg, begins_chunk, begins_heap, begins_shape, block_chunk, chunk_at, chunk_tail, chunk_tree, chunks_at, heap_at, heap_tree, is_chunk_tail, shape_chunk, term_chunk}
 use Rattle.cyp_spec.proofs.IntLaws.{int_ends, int_reads}
 use Rattle.cyp_spec.proofs.LitLaws.{lit_ends}
 use Rattle.cyp_spec.proofs.ArgLaws.{arg_reads, name_arg_begins}

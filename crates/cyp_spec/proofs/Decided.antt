@@ -2,12 +2,14 @@
 use Rattle.std.proofs.Common.{Err, List, Ok, Result, [], inl, inr, refl, ◌∷◌, ◌≡◌, ◌⊎◌}
 use Rattle.cyp_grammar.specs.Beginnings.{Refused}
 use Rattle.cyp_grammar.specs.Lexemes.{Lexeme}
-use Rattle.cyp_grammar.proofs.Readers.{AName, NoName, Stop, Want}
-use Rattle.cyp_grammar.proofs.Stops.{IsReading, IsStop, whole_of}
+use Rattle.cyp_grammar.specs.Readers.{Stop, whole_of}
+use Rattle.cyp_grammar.specs.declared.want.Want.{Want}
+use Rattle.cyp_grammar.specs.declared.want.Want.TheVariants.{AName, NoName}
+use Rattle.cyp_grammar.proofs.Stops.{IsReading, IsStop}
 use Rattle.cyp_grammar.proofs.Wholes.{spelled_once, whole_reads}
 use Rattle.cyp_spec.specs.Grammar.{text_spelling}
 use Rattle.cyp_spec.specs.ReadingLaws.{OneTree}
-use Rattle.cyp_spec.proofs.TextReaders.{text_at}
+use Rattle.cyp_spec.specs.TextReaders.{text_at}
 use Rattle.cyp_spec.specs.declared.tree.TextTree.{TextTree}
 use Rattle.cyp_spec.specs.GrammarFaults.{AllowsName, name_at}
 use Rattle.cyp_spec.proofs.NamesAllowed.{AllowsNone, IsNoMore, Parsed, Stops}

@@ -19,7 +19,7 @@ use Rattle.cyp_term.specs.declared.term.Var.{Var}
 use Rattle.cyp_spec.specs.Specifications.{Specification}
 use Rattle.cyp_spec.specs.declared.tree.PureTree.TheVariants.{NoItems}
 use Rattle.cyp_spec.specs.declared.tree.TextTree.{TextTree}
-use Rattle.cyp_spec.proofs.Parser.{parsed}
+use Rattle.cyp_spec.proofs.PlainReader.{parsed}
 
 -- ---- texts
 

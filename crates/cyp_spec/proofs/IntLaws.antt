@@ -4,7 +4,8 @@ use Rattle.cyp_lex.specs.declared.token.Sign.TheVariants.{Minus, Plus}
 use Rattle.cyp_grammar.specs.Lexemes.{Name, Number, Said, Symbol}
 use Rattle.cyp_grammar.specs.Spelling.{Any, At, Mark, ident}
 use Rattle.cyp_grammar.specs.declared.ident.Ident.{Ident}
-use Rattle.cyp_grammar.proofs.Readers.{NoName, is_name, is_number, is_sign}
+use Rattle.cyp_grammar.specs.Readers.{is_name, is_number, is_sign}
+use Rattle.cyp_grammar.specs.declared.want.Want.TheVariants.{NoName}
 use Rattle.cyp_grammar.proofs.Readings.{Apart, Reads, Within, apart_none, less_reads, none, nowhere, within_self}
 use Rattle.cyp_grammar.proofs.Singles.{one}
 use Rattle.cyp_grammar.proofs.Sequences.{both_reads, spell_both}
@@ -16,7 +17,7 @@ use Rattle.cyp_grammar.proofs.Firsts.{NameBegins, first_reads, name_ident, name_
 use Rattle.cyp_spec.specs.declared.tree.IntTree.{IntTree}
 use Rattle.cyp_spec.specs.declared.tree.IntTree.TheVariants.{MinusNum, NameMinus, NamePlus, Named, Num, NumPlus}
 use Rattle.cyp_spec.specs.Grammar.{int_spelling}
-use Rattle.cyp_spec.proofs.TermReaders.{AnyTerm, MinusTerm, NameTerm, NumberTerm, any_term, begins_int, begins_other, int_at, int_tree, is_sum, minus_term, name_term, number_term, other_term, sum_sign, sum_sign_of}
+use Rattle.cyp_spec.specs.TermReaders.{AnyTerm, MinusTerm, NameTerm, NumberTerm, any_term, begins_int, begins_other, int_at, int_tree, is_sum, minus_term, name_term, number_term, other_term, sum_sign, sum_sign_of}
 
 -- ---- the sign of a sum
 

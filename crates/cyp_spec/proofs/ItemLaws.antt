@@ -4,7 +4,8 @@ use Rattle.cyp_lex.specs.declared.token.Sign.TheVariants.{AndAnd, Minus, Plus, S
 use Rattle.cyp_lex.specs.declared.token.Word.TheVariants.{True}
 use Rattle.cyp_grammar.specs.Lexemes.{Name, Reserved, Said, Symbol}
 use Rattle.cyp_grammar.specs.Spelling.{Any, Mark}
-use Rattle.cyp_grammar.proofs.Readers.{NoName, is_sign, is_word, one_of, plainly, single}
+use Rattle.cyp_grammar.specs.Readers.{sign_token, is_sign, is_word, one_of, plainly, single}
+use Rattle.cyp_grammar.specs.declared.want.Want.TheVariants.{NoName}
 use Rattle.cyp_grammar.proofs.Readings.{Apart, Reads, apart_none, none, nowhere, within_self}
 use Rattle.cyp_grammar.proofs.Singles.{one}
 use Rattle.cyp_grammar.proofs.Sequences.{both_reads, spell_both}
@@ -20,10 +21,13 @@ use Rattle.cyp_spec.specs.declared.tree.Conjunction.TheVariants.{Ampersands, Sla
 use Rattle.cyp_spec.specs.declared.tree.ItemTree.{ItemTree}
 use Rattle.cyp_spec.specs.declared.tree.ItemTree.TheVariants.{LitItem, TrueItem}
 use Rattle.cyp_spec.specs.Grammar.{conjunction_sign, item_spelling, later_item, lit_spelling}
-use Rattle.cyp_spec.proofs.LitReaders.{begins_lit}
-use Rattle.cyp_spec.proofs.BodyReaders.{SomeItems, begins_item, conjunction_of, is_conjunction, item_at, item_tree, items_at, later_item_at}
+use Rattle.cyp_spec.specs.LitReaders.{begins_lit}
+use Rattle.cyp_spec.specs.BodyReaders.{SomeItems, begins_item, conjunction_of, is_conjunction, item_at, item_tree, items_at, later_item_at}
 use Rattle.cyp_spec.proofs.LitLaws.{is_lit_tail, lit_ends}
 use Rattle.cyp_spec.proofs.NotLaws.{lit_leads, lit_reads, name_lit}
+use Rattle.cyp_spec.proofs.Consumed.{consumes}
+use Rattle.cyp_spec.proofs.ListsRead.{repeating_is}
+use Rattle.cyp_spec.proofs.ManyReads.{same_reads, sign_refuses}
 
 true_lit : Apart (is_word True) begins_lit
 true_lit (Reserved True) e = refl
@@ -78,7 +82,7 @@ conjunction_mark c = Any (conjunction_said c)
 conjunction_reads : {ends : Said → Bool} {n : ℕ} → Reads n Conjunction (one conjunction_mark) is_conjunction ends (single (plainly conjunction_of) NoName)
 conjunction_reads = plainly_reads {of = conjunction_of} {said = conjunction_said} {want = NoName} conjunction_tells (λ x. refl)
 
-later_reads : (n : ℕ) → Reads n (Conjunction × ItemTree) later_item is_conjunction lit_ends later_item_at
+pub later_reads : (n : ℕ) → Reads n (Conjunction × ItemTree) later_item is_conjunction lit_ends later_item_at
 later_reads n = both_reads {fA = none} conjunction_reads (item_reads n) (apart_none _)
 
 conjunction_semicolon : Apart is_conjunction (is_sign Semicolon)
@@ -96,7 +100,8 @@ abbrev pub items_spelling : SomeItems → List Mark
 items_spelling = spell_both item_spelling (repeated_spelling later_item (one (sign_mark Semicolon)))
 
 pub items_reads : (n : ℕ) → Reads n SomeItems items_spelling begins_item none items_at
-items_reads n = both_reads (item_reads n) (repeating_reads NoName conjunction_semicolon item_ended (λ x. refl) later_reads (λ m. sign_reads Semicolon) n) item_ended
+items_reads n = both_reads (item_reads n) (same_reads (repeating_is is_conjunction (is_sign Semicolon) later_item_at (sign_token Semicolon) (consumes later_reads) (sign_refuses Semicolon))
+    (repeating_reads NoName conjunction_semicolon item_ended (λ x. refl) later_reads (λ m. sign_reads Semicolon) n)) item_ended
 
 true_leads : NameLeads (Unit {0}) (one (word_mark True)) is_lit_tail
 true_leads = leads_no_name is_lit_tail (word_reads {ends = none} {n = 0} True) (λ x. refl)

@@ -4,7 +4,8 @@ use Rattle.cyp_lex.specs.declared.token.Sign.TheVariants.{AtLeast, AtMost, Equal
 use Rattle.cyp_lex.specs.declared.token.Word.TheVariants.{In}
 use Rattle.cyp_grammar.specs.Lexemes.{Lexeme, Name, Reserved, Said, Symbol}
 use Rattle.cyp_grammar.specs.Spelling.{Any, Mark, Then}
-use Rattle.cyp_grammar.proofs.Readers.{NoName, both, is_sign, is_word, one_of, word_token}
+use Rattle.cyp_grammar.specs.Readers.{both, is_sign, is_word, one_of, word_token}
+use Rattle.cyp_grammar.specs.declared.want.Want.TheVariants.{NoName}
 use Rattle.cyp_grammar.proofs.Readings.{Apart, Reads, Within, apart_none, none, within_self}
 use Rattle.cyp_grammar.proofs.Singles.{one}
 use Rattle.cyp_grammar.proofs.Sequences.{both_reads, spell_both}
@@ -20,8 +21,8 @@ use Rattle.cyp_spec.specs.declared.tree.PartTree.{PartTree}
 use Rattle.cyp_spec.specs.declared.tree.PartTree.TheVariants.{Braces, PartName}
 use Rattle.cyp_spec.specs.declared.tree.SetTree.{SetTree}
 use Rattle.cyp_spec.specs.Grammar.{comparison_sign, int_spelling, set_spelling}
-use Rattle.cyp_spec.proofs.TermReaders.{begins_int, begins_set, int_at, set_at, set_tree}
-use Rattle.cyp_spec.proofs.LitReaders.{Base, IntLit, Related, SetLit, base_at, begins_base, comparison, comparison_of, int_lit, is_comparison, is_relation, is_set_sign, is_set_tail, related, set_lit, set_sign, set_sign_of}
+use Rattle.cyp_spec.specs.TermReaders.{begins_int, begins_set, int_at, set_at, set_tree}
+use Rattle.cyp_spec.specs.LitReaders.{Base, IntLit, Related, SetLit, base_at, begins_base, comparison, comparison_of, int_lit, is_comparison, is_relation, is_set_sign, is_set_tail, related, set_lit, set_sign, set_sign_of}
 use Rattle.cyp_spec.proofs.IntLaws.{int_ends, int_reads, name_int}
 use Rattle.cyp_spec.proofs.SetLaws.{set_reads}
 

@@ -4,8 +4,8 @@ use Rattle.cyp_lex.specs.declared.token.Sign.TheVariants.{LeftParen, RightParen}
 use Rattle.cyp_lex.specs.declared.token.Word.TheVariants.{Not}
 use Rattle.cyp_grammar.specs.Lexemes.{Lexeme, Name, Reserved, Symbol}
 use Rattle.cyp_grammar.specs.Spelling.{At, Mark, Then}
-use Rattle.cyp_grammar.proofs.Readers.{Read, both, is_sign, is_word, sign_token, word_place}
-use Rattle.cyp_grammar.proofs.Readings.{Apart, Reads, apart_none, none, nowhere, within_self}
+use Rattle.cyp_grammar.specs.Readers.{Read, both, is_sign, is_word, sign_token, word_place}
+use Rattle.cyp_grammar.proofs.Readings.{Apart, Reads, Sound, apart_none, none, nowhere, within_self}
 use Rattle.cyp_grammar.proofs.Singles.{one}
 use Rattle.cyp_grammar.proofs.Sequences.{both_reads, spell_both, then_reads}
 use Rattle.cyp_grammar.proofs.Mapped.{mapped_reads}
@@ -17,7 +17,8 @@ use Rattle.cyp_spec.specs.LitTrees.{Comparing, Inside, LitTree, Negation, SameSe
 use Rattle.cyp_spec.specs.declared.tree.IntTree.{IntTree}
 use Rattle.cyp_spec.specs.declared.tree.SetTree.{SetTree}
 use Rattle.cyp_spec.specs.Grammar.{lit_spelling}
-use Rattle.cyp_spec.proofs.LitReaders.{Base, Negated, Related, begins_base, begins_lit, lit_at, lit_in, lit_tree}
+use Rattle.cyp_spec.specs.LitReaders.{Base, Related, begins_base, begins_lit, lit_at}
+use Rattle.cyp_spec.proofs.NestedLits.{Negated, lit_in, lit_tree, nested_is}
 use Rattle.cyp_spec.proofs.LitLaws.{base_behind, base_reads, base_spelling, is_lit_tail, lit_ends, name_base}
 
 right_ends : Apart (is_sign RightParen) lit_ends
@@ -121,7 +122,7 @@ lit_in_reads (suc n) = mapped_reads lit_tree lit_parts there again same
 -- the reader of literals gives the literal that is spelled, or stops at the first lexeme that nothing allows
 pub lit_reads : (n : ℕ) → Reads n LitTree lit_spelling begins_lit lit_ends lit_at
 lit_reads n = record {
-  sound = λ ts short. (lit_in_reads (suc (length ts))).sound ts (omega arith);
+  sound = λ ts short. subst (λ (r : Read LitTree). Sound LitTree lit_spelling begins_lit lit_ends ts r) (nested_is ts) ((lit_in_reads (suc (length ts))).sound ts (omega arith));
   first = lit_first;
   full = lit_full;
   some = (lit_in_reads 0).some;

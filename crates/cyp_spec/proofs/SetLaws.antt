@@ -4,7 +4,7 @@ use Rattle.cyp_lex.specs.declared.token.Sign.TheVariants.{Comma, LeftBrace, Minu
 use Rattle.cyp_grammar.specs.Lexemes.{Lexeme, Name, Said, Symbol}
 use Rattle.cyp_grammar.specs.Spelling.{At, Mark, ident}
 use Rattle.cyp_grammar.specs.declared.ident.Ident.{Ident}
-use Rattle.cyp_grammar.proofs.Readers.{Read, both, is_name, is_sign, one_of, sign_token}
+use Rattle.cyp_grammar.specs.Readers.{Read, both, is_name, is_sign, one_of, sign_token}
 use Rattle.cyp_grammar.proofs.Readings.{Apart, Reads, Within, apart_none, none, nowhere, within_self}
 use Rattle.cyp_grammar.proofs.Singles.{one}
 use Rattle.cyp_grammar.proofs.Sequences.{both_reads, spell_both}
@@ -18,7 +18,7 @@ use Rattle.cyp_spec.specs.declared.tree.PartTree.{PartTree}
 use Rattle.cyp_spec.specs.declared.tree.PartTree.TheVariants.{Braces, PartName}
 use Rattle.cyp_spec.specs.declared.tree.SetTree.{SetTree}
 use Rattle.cyp_spec.specs.Grammar.{int_spelling, part_spelling, set_spelling}
-use Rattle.cyp_spec.proofs.TermReaders.{Inner, begins_int, begins_set, braces_at, inner, part_at, part_tree, parts_at, set_at, set_tree, terms}
+use Rattle.cyp_spec.specs.TermReaders.{Inner, begins_int, begins_set, braces_at, inner, part_at, part_tree, parts_at, set_at, set_tree, terms}
 use Rattle.cyp_spec.proofs.IntLaws.{int_ends, int_reads, name_int}
 
 -- what would make a list of terms longer

@@ -2,11 +2,12 @@
 use Rattle.std.proofs.Common.{Err, List, Result, [], ap, append-nil, arith, length, length-append, refl, subst, sym, ℕ, ◌++◌, ◌∙◌, ◌∷◌, ◌≡◌}
 use Rattle.cyp_grammar.specs.Beginnings.{Begins, IsRefusedAt, IsUnfinished, Refused}
 use Rattle.cyp_grammar.specs.Lexemes.{Lexeme, Number}
-use Rattle.cyp_grammar.proofs.Readers.{AName, NoName, Stop}
-use Rattle.cyp_grammar.proofs.Stops.{IsReading, IsStop, whole_of}
+use Rattle.cyp_grammar.specs.Readers.{Stop, whole_of}
+use Rattle.cyp_grammar.specs.declared.want.Want.TheVariants.{AName, NoName}
+use Rattle.cyp_grammar.proofs.Stops.{IsReading, IsStop}
 use Rattle.cyp_spec.specs.Grammar.{text_spelling}
 use Rattle.cyp_spec.specs.GrammarFaults.{AllowsName, EndsInFirstNumber, name_at}
-use Rattle.cyp_spec.proofs.TextReaders.{text_at}
+use Rattle.cyp_spec.specs.TextReaders.{text_at}
 use Rattle.cyp_spec.specs.declared.tree.TextTree.{TextTree}
 use Rattle.cyp_spec.proofs.Decided.{reading}
 use Rattle.cyp_spec.proofs.Parted.{one_last}
@@ -33,7 +34,7 @@ module _ (ls : List Lexeme) (s : Stop) (stops : whole_of text_at ls ≡ Err s) (
   same : (stop.before ≡ before) × (stop.rest ≡ rest)
   same = same_parts stop.before before stop.rest rest (sym stop.parts ∙ parts) (sym stop.left ∙ left)
 
-  begins : Begins text_spelling before
+  pub begins : Begins text_spelling before
   begins = subst (λ (bs : List Lexeme). Begins text_spelling bs) same.0 stop.begins
 
   no_more : Refused text_spelling before rest

@@ -5,7 +5,8 @@ use Rattle.cyp_lex.specs.declared.token.Word.TheVariants.{Int, Loc, Predicate, S
 use Rattle.cyp_lex.specs.declared.token.Word.TheVariants.{Void}
 use Rattle.cyp_grammar.specs.Lexemes.{Reserved, Said, Symbol}
 use Rattle.cyp_grammar.specs.Spelling.{At, Mark, ident}
-use Rattle.cyp_grammar.proofs.Readers.{NoName, is_sign, is_word, one_of, placed, single}
+use Rattle.cyp_grammar.specs.Readers.{sign_token, word_token, is_sign, is_word, one_of, placed, single}
+use Rattle.cyp_grammar.specs.declared.want.Want.TheVariants.{NoName}
 use Rattle.cyp_grammar.proofs.Readings.{Apart, Reads, apart_none, none, nowhere, within_self}
 use Rattle.cyp_grammar.proofs.Singles.{one}
 use Rattle.cyp_grammar.proofs.Sequences.{both_reads, spell_both}
@@ -20,10 +21,14 @@ use Rattle.cyp_spec.specs.declared.tree.SortTree.{SortTree}
 use Rattle.cyp_spec.specs.declared.tree.SortTree.TheVariants.{IntSort, LocSort, SetSort}
 use Rattle.cyp_spec.specs.declared.tree.TextTree.{TextTree}
 use Rattle.cyp_spec.specs.Grammar.{clause_spelling, in_braces, lit_spelling, param_spelling, params_spelling, pred_spelling, sort_word, text_spelling}
-use Rattle.cyp_spec.proofs.TextReaders.{InParens, SomeClause, SomeClauses, SomeParam, SomePred, SomeProcedure, clause_at, clause_tree, clauses_at, is_sort, param_at, param_tree, params_at, params_tree, pred_at, pred_tree, procedure_at, sort_of, text_at, text_tree}
+use Rattle.cyp_spec.specs.TextReaders.{InParens, SomeClause, SomeClauses, SomeParam, SomePred, SomeProcedure, clause_at, clause_tree, clauses_at, is_sort, param_at, param_tree, params_at, params_tree, pred_at, pred_tree, procedure_at, sort_of, text_at, text_tree}
 use Rattle.cyp_spec.proofs.LitLaws.{lit_ends}
 use Rattle.cyp_spec.proofs.NotLaws.{lit_reads}
 use Rattle.cyp_spec.proofs.BodyLaws.{braced_reads}
+use Rattle.cyp_spec.proofs.Consumed.{consumes}
+use Rattle.cyp_spec.proofs.ListsRead.{repeating_is}
+use Rattle.cyp_spec.proofs.ManyReads.{same_reads, sign_refuses, word_refuses}
+use Rattle.cyp_spec.proofs.PartsRead.{both_refuses}
 
 -- ---- parameters
 
@@ -53,7 +58,7 @@ sort_reads = placed_reads {of = sort_of} {said = sort_said} {want = NoName} sort
 abbrev param_parts : ParamTree → SomeParam
 param_parts p = ((p.place, p.sort), p.name)
 
-param_reads : (n : ℕ) → Reads n ParamTree param_spelling is_sort none param_at
+pub param_reads : (n : ℕ) → Reads n ParamTree param_spelling is_sort none param_at
 param_reads n = mapped_reads {spA = spell_both (one sort_mark) (one ident)} param_tree param_parts (λ x. refl) (λ p. refl) (λ p. refl) (both_reads {fA = none} sort_reads ident_reads (apart_none _))
 
 sort_comma : Apart is_sort (is_sign Comma)
@@ -91,7 +96,7 @@ guarded_spelling = spell_both (one bar_mark) (spell_both lit_spelling (spell_bot
 abbrev clause_parts : ClauseTree → SomeClause
 clause_parts c = (c.place, (c.guard, (tt, c.body)))
 
-clause_reads : (n : ℕ) → Reads n ClauseTree clause_spelling (is_sign Bar) none clause_at
+pub clause_reads : (n : ℕ) → Reads n ClauseTree clause_spelling (is_sign Bar) none clause_at
 clause_reads n = mapped_reads {spA = guarded_spelling} clause_tree clause_parts (λ x. refl) (λ c. refl) (λ c. refl)
     (both_reads {fA = none} (sign_place_reads Bar)
     (both_reads (lit_reads n) (both_reads {fA = none} (sign_reads Implies) (braced_reads n) (apart_none _)) implies_lit) (apart_none _))
@@ -105,7 +110,8 @@ clauses_spelling = spell_both (one (sign_mark LeftBrace)) (spell_both clause_spe
 
 clauses_reads : (n : ℕ) → Reads n SomeClauses clauses_spelling (is_sign LeftBrace) none clauses_at
 clauses_reads n = both_reads {fA = none} (sign_reads LeftBrace)
-    (both_reads (clause_reads n) (repeating_reads NoName bar_close (apart_none _) (λ x. refl) clause_reads (λ m. sign_reads RightBrace) n) (apart_none _)) (apart_none _)
+    (both_reads (clause_reads n) (same_reads (repeating_is (is_sign Bar) (is_sign RightBrace) clause_at (sign_token RightBrace) (consumes clause_reads) (sign_refuses RightBrace))
+    (repeating_reads NoName bar_close (apart_none _) (λ x. refl) clause_reads (λ m. sign_reads RightBrace) n)) (apart_none _)) (apart_none _)
 
 -- ---- predicates
 
@@ -115,7 +121,7 @@ shape_spelling = spell_both (one (word_mark Predicate)) (spell_both (one ident) 
 abbrev pred_parts : PredTree → SomePred
 pred_parts q = (tt, (q.name, (q.params, (tt, (q.first, (q.others, tt))))))
 
-pred_reads : (n : ℕ) → Reads n PredTree pred_spelling (is_word Predicate) none pred_at
+pub pred_reads : (n : ℕ) → Reads n PredTree pred_spelling (is_word Predicate) none pred_at
 pred_reads n = mapped_reads {spA = shape_spelling} pred_tree pred_parts (λ x. refl) (λ q. refl) (λ q. refl)
     (both_reads {fA = none} (word_reads Predicate)
     (both_reads {fA = none} ident_reads (both_reads (params_reads n) (clauses_reads n) (apart_none _)) (apart_none _)) (apart_none _))
@@ -139,4 +145,5 @@ text_parts t = (t.preds, (tt, (t.name, (t.params, (t.pre, t.post)))))
 -- the reader of texts gives the text that is spelled, or stops at the first lexeme that nothing allows
 pub text_reads : (n : ℕ) → Reads n TextTree text_spelling (one_of (is_word Predicate) (is_word Void)) none text_at
 text_reads n = mapped_reads {spA = repeated_spelling pred_spelling procedure_spelling} text_tree text_parts (λ x. refl) (λ t. refl) (λ t. refl)
-    (repeating_reads NoName predicate_void (apart_none _) (λ x. refl) pred_reads procedure_reads n)
+    (same_reads (repeating_is (is_word Predicate) (is_word Void) pred_at procedure_at (consumes pred_reads) (both_refuses NoName (is_word Void) (word_token Void) _ (word_refuses Void)))
+    (repeating_reads NoName predicate_void (apart_none _) (λ x. refl) pred_reads procedure_reads n))

@@ -1,8 +1,16 @@
 //! Specifications as texts: their grammar, what they say, and their faults.
 #![tactic(auto)]
 
+mod bodies;
+mod chunks;
 mod laws;
+mod lists;
 mod lit_tree;
+mod literals;
+mod parse;
+mod parser;
+mod terms;
+mod texts;
 mod tree;
 
 pub use laws::{
@@ -15,3 +23,6 @@ pub use tree::{
     ArgTree, BodyTree, ChunkTree, ClauseTree, Comparison, Conjunction, IntTree, ItemTree,
     ParamTree, PartTree, PredTree, PureTree, SetTree, SortTree, TextTree,
 };
+
+#[cfg(test)]
+mod tests;

@@ -5,7 +5,7 @@ use Rattle.std.proofs.lemmas.Result.{IfOk-weaker}
 use Rattle.std.specs.List.{remove}
 use Rattle.cyp_sets.specs.Masks.{shows}
 use Rattle.cyp_sets.specs.Dealing.{Deals, DealsFrom, integer}
-use Rattle.cyp_sets.proofs.Deals.{deals_nothing, deals_taken, deals_put, no_way, deals_none, deals_here, deals_there, deals_either, showing, hiding, no_items, tested_is, put_back}
+use Rattle.cyp_sets.proofs.Deals.{deals_nothing, deals_taken, deals_put, no_way, deals_none, deals_here, deals_there, deals_either, taken_is, rest_is, showing, hiding, no_items, tested_is, put_back}
 use Rattle.cyp_sets.proofs.dealing.+deal.Goals as goal
 
 pub deal-returns-then-is_empty-clause-deals : goal.deal-returns-then-is_empty-clause-deals
@@ -27,8 +27,8 @@ deal-returns-clause-deals t c =
     let lists = c.args.lists.now in
     let k = c.hardest-place.result in
     let want = c.remove-want.result in
-    let is : want ≡ get_or ws k want = c.remove-want.ensures.value ∙ ap (λ vs. get_or vs k want) c.in_ok-rest.ensures.items in
-    let left : c.as_slice-3.result.now ≡ remove ws k = c.as_slice-3.ensures.value ∙ c.remove-want.ensures.items ∙ ap (λ vs. remove vs k) c.in_ok-rest.ensures.items in
+    let is = taken_is ws c.in_ok-rest.rest.items k want c.remove-want.ensures.value c.in_ok-rest.ensures.items in
+    let left = rest_is ws c.in_ok-rest.rest.items c.remove-want.new.self.items c.as_slice-3.result.now k c.as_slice-3.ensures.value c.remove-want.ensures.items c.in_ok-rest.ensures.items in
     IfOk-weaker c.deal_from.result _ (λ b. (IsTrue b → Deals ws lists) × (Deals ws lists → IsTrue b))
     (λ b h. (
       λ e. deals_put ws lists k want c.hardest-place.ensures (subst₂ (λ w vs. DealsFrom 0 w vs lists) is left (h.0 e)),
