@@ -321,6 +321,7 @@ rank_kind vs v h = by_sort v.sort refl
   where
     below : rank_in vs v < number_of_sort vs v.sort
     below = rank_in-below vs v h
+
     by_sort : (z : Sort) → v.sort ≡ z → (rank_in vs v < length (filter (λ w. not (is_set_var w)) vs)) ⊎ (rank_in vs v < length (filter is_set_var vs))
     by_sort Int e =
         let own : rank_in vs v < number_of_sort vs Int = subst (λ z. rank_in vs v < number_of_sort vs z) e below in

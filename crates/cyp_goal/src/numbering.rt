@@ -110,11 +110,7 @@ fn renamed_vars(alloc: Global, vars: &[Var], names: &VarTable) -> Result<List<Va
     Ok(List::from_vec(renamed))
 }
 
-fn renamed_elems(
-    alloc: Global,
-    elems: &[Term],
-    names: &VarTable,
-) -> Result<List<Term>, NoMemory>
+fn renamed_elems(alloc: Global, elems: &[Term], names: &VarTable) -> Result<List<Term>, NoMemory>
     ensures elems { IfOk result (λ ts. ts ≡ without_repeats term_eq (map (apply_term (numbering names.now)) elems.now)) }
     ensures sorted { OnOk result (list_all (term_fits no_set) elems.now ≡ true) }
 {
@@ -191,11 +187,7 @@ fn renamed_card(card: Option<Var>, names: &VarTable) -> Option<Var>
     }
 }
 
-fn renamed_inst(
-    alloc: Global,
-    inst: &InstOf,
-    names: &VarTable,
-) -> Result<Chunk, NoMemory>
+fn renamed_inst(alloc: Global, inst: &InstOf, names: &VarTable) -> Result<Chunk, NoMemory>
     ensures renamed { IfOk result (λ c. c ≡ apply_chunk (numbering names.now) (Inst inst.now)) }
     ensures sorted { OnOk result (list_all (arg_fits no_set is_set_var) inst.now.args ≡ true) }
 {
@@ -285,11 +277,7 @@ fn rename_link(alloc: Global, link: Link, names: &VarTable) -> Result<Link, NoMe
     })
 }
 
-fn rename_links(
-    alloc: Global,
-    links: List<Link>,
-    names: &VarTable,
-) -> Result<List<Link>, NoMemory>
+fn rename_links(alloc: Global, links: List<Link>, names: &VarTable) -> Result<List<Link>, NoMemory>
     ensures renamed { IfOk result (λ ks. ks ≡ map (apply_link (numbering names.now)) links) }
     ensures sorted { OnOk result (list_all (link_fits no_set is_set_var) links ≡ true) }
 {

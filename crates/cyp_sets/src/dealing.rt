@@ -3,7 +3,7 @@ ghost use Rattle.std.specs.List.{All};
 ghost use Rattle.cyp_sets.specs.Dealing.{Deals, DealsFrom, shown_in, ways_to_show};
 
 use crate::masks::Want;
-use crate::region_lists::{is_shown_in, regions_showing, regions_hiding};
+use crate::region_lists::{is_shown_in, regions_hiding, regions_showing};
 use cyp_term::{List, NoMemory};
 use std::alloc::Global;
 

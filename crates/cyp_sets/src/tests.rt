@@ -140,10 +140,7 @@ fn decides_both_lists_together(rt: HostRuntime) -> Result<(), Fail> {
 fn compares_single_elements(rt: HostRuntime) -> Result<(), Fail> {
     let alloc = rt.alloc();
     let mut same = Vec::new(alloc);
-    same.push(Lit::Same(
-        braces(alloc, &[elem(0)])?,
-        braces(alloc, &[elem(1)])?,
-    ))?;
+    same.push(Lit::Same(braces(alloc, &[elem(0)])?, braces(alloc, &[elem(1)])?))?;
     assert!(rt; !answer(alloc, same.as_slice(), &[0, 1])?);
     assert!(rt; answer(alloc, same.as_slice(), &[4, 4])?);
     Ok(())
@@ -237,6 +234,9 @@ fn finds_antichains_exactly_where_there_are_some(rt: HostRuntime) -> Result<(), 
     let alloc = rt.alloc();
     let lits = antichain(alloc)?;
     let mut classes = Vec::new(alloc);
-    assert_eq!(rt; count_allowed(alloc, lits.as_slice(), &mut classes, 0, 6)?, 81);
+    assert_eq!(rt;
+        count_allowed(alloc, lits.as_slice(), &mut classes, 0, 6)?,
+        81
+    );
     Ok(())
 }
