@@ -1,6 +1,0 @@
-use Rattle.std.proofs.Common.{◌≡◌, ◌-◌}
-use Rattle.cyp_spec.specs.LitReaders.{closes}
-use Rattle.cyp_spec.proofs.parser.Parser.close.Given as goal
-
-abbrev pub invariant-loop-i : goal.invariant-loop-i
-invariant-loop-i l = closes l.count l.fn.self ≡ closes (l.count - l.i) l.self

@@ -1,7 +1,0 @@
-use Rattle.cyp_spec.specs.TermReaders.{part_at}
-use Rattle.cyp_spec.proofs.Consumed.{shorter}
-use Rattle.cyp_spec.proofs.TermParts.{part_consumes}
-use Rattle.cyp_spec.proofs.terms.PartTreePart.read.Goals as goal
-
-pub returns-clause-shorter : goal.returns-clause-shorter
-returns-clause-shorter c = shorter part_at part_consumes c.args.from.now c.part.result c.part.new.self c.part.ensures

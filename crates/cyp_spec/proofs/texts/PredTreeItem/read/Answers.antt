@@ -1,7 +1,0 @@
-use Rattle.cyp_spec.specs.TextReaders.{pred_at}
-use Rattle.cyp_spec.proofs.Consumed.{shorter}
-use Rattle.cyp_spec.proofs.TextParts.{pred_consumes}
-use Rattle.cyp_spec.proofs.texts.PredTreeItem.read.Goals as goal
-
-pub returns-clause-shorter : goal.returns-clause-shorter
-returns-clause-shorter c = shorter pred_at pred_consumes c.args.from.now c.pred.result c.pred.new.self c.pred.ensures
