@@ -7,11 +7,11 @@ mod laws;
 mod lists;
 mod lit_tree;
 mod literals;
-mod parse;
 mod parser;
 mod terms;
 mod texts;
 mod tree;
+mod whole_text;
 
 pub use laws::{
     a_text_has_one_reading, goal_that_is_read_is_formed, goal_that_is_read_is_sorted,
@@ -19,11 +19,11 @@ pub use laws::{
     what_is_printed_is_read,
 };
 pub use lit_tree::{BaseTree, LitTree};
-pub use parse::parse;
 pub use tree::{
     ArgTree, BodyTree, ChunkTree, ClauseTree, Comparison, Conjunction, IntTree, ItemTree,
     ParamTree, PartTree, PredTree, PureTree, SetTree, SortTree, TextTree,
 };
+pub use whole_text::parse;
 
 #[cfg(test)]
 mod tests;

@@ -1,5 +1,5 @@
-use crate::parse::parse;
 use crate::tree::{ArgTree, ChunkTree, IntTree, ItemTree, PureTree, TextTree};
+use crate::whole_text::parse;
 use cyp_lex::{Fault, FaultKind, tokens};
 use cyp_term::{Fail, NoMemory};
 use std::alloc::Global;

@@ -2,7 +2,7 @@ use Rattle.std.proofs.Common.{length, map}
 use Rattle.cyp_grammar.specs.Lexemes.{lexeme_of}
 use Rattle.cyp_lex.proofs.InOrder.{LieInOrder-within}
 use Rattle.cyp_text.proofs.StopFaults.{whole_is_spelled}
-use Rattle.cyp_text.proofs.parse.parse.Goals as goal
+use Rattle.cyp_text.proofs.whole_text.parse.Goals as goal
 
 pub whole-requires : goal.whole-requires
 whole-requires c = LieInOrder-within 0 c.args.tokens.now (length c.args.text.now) c.requires.in_order

@@ -2,7 +2,7 @@ use Rattle.std.proofs.Common.{map}
 use Rattle.cyp_grammar.specs.Lexemes.{lexeme_of}
 use Rattle.cyp_text.proofs.KindsRead.{name_allowed, name_refused}
 use Rattle.cyp_text.proofs.StopFaults.{ended, name_told, named_stop}
-use Rattle.cyp_text.proofs.parse.allows_name.Goals as goal
+use Rattle.cyp_text.proofs.whole_text.allows_name.Goals as goal
 
 pub returns-in-Ok : goal.returns-in-Ok
 returns-in-Ok c = ended (map (lexeme_of c.args.text.now) c.args.front.now) c.in-Ok._tree c.in-Ok.ensures

@@ -2,7 +2,7 @@ use Rattle.std.proofs.Common.{List, Ok, ap, map, refl, sym, ◌<◌, ◌∙◌, 
 use Rattle.cyp_grammar.specs.Lexemes.{lexeme_of, Lexeme}
 use Rattle.cyp_text.specs.TextReaders.{text_at}
 use Rattle.cyp_text.proofs.StopFaults.{whole_reads_on}
-use Rattle.cyp_text.proofs.parse.whole.Goals as goal
+use Rattle.cyp_text.proofs.whole_text.whole.Goals as goal
 
 pub returns-then-left-gt0 : goal.returns-then-left-gt0
 returns-then-left-gt0 c =

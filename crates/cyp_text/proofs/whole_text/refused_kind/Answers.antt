@@ -2,7 +2,7 @@ use Rattle.std.proofs.Common.{map}
 use Rattle.cyp_grammar.specs.Lexemes.{lexeme_of}
 use Rattle.cyp_text.specs.GrammarFaults.{spoiled}
 use Rattle.cyp_text.proofs.KindsRead.{name_allowed, name_refused, other_expected, told_false, told_true, word_expected, word_reserved}
-use Rattle.cyp_text.proofs.parse.refused_kind.Goals as goal
+use Rattle.cyp_text.proofs.whole_text.refused_kind.Goals as goal
 
 pub returns-then-branch : goal.returns-then-branch
 returns-then-branch c = spoiled (told_true c.in_ok-spoils_sum.field-0 _ c.if-branch.true c.in_ok-spoils_sum.ensures)

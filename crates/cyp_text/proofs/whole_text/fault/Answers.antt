@@ -2,7 +2,7 @@ use Rattle.std.proofs.Common.{arith, drop, get_or, length, map, subst, suc, sym,
 use Rattle.cyp_text.proofs.FaultParts.{parts_begin, parts_name, token_fault, within_left}
 use Rattle.cyp_grammar.specs.Lexemes.{lexeme_of}
 use Rattle.cyp_text.proofs.StopFaults.{end_fault}
-use Rattle.cyp_text.proofs.parse.fault.Goals as goal
+use Rattle.cyp_text.proofs.whole_text.fault.Goals as goal
 
 pub overflow_sub-at : goal.overflow_sub-at
 overflow_sub-at c = within_left c.args.text.now c.args.tokens.now c.args.stopped c.requires.stops

@@ -1,7 +1,7 @@
 use Rattle.std.proofs.Common.{map, sym, ◌∙◌}
 use Rattle.cyp_grammar.specs.Lexemes.{lexeme_of}
 use Rattle.cyp_text.proofs.KindsRead.{minus_is, minus_not, minus_result, other_spoils, spoils_at_once}
-use Rattle.cyp_text.proofs.parse.spoils_sum.Goals as goal
+use Rattle.cyp_text.proofs.whole_text.spoils_sum.Goals as goal
 
 pub returns-then-spoils_last : goal.returns-then-spoils_last
 returns-then-spoils_last c =

@@ -4,7 +4,7 @@ use Rattle.cyp_grammar.specs.Lexemes.{Said, lexeme_of, said_by}
 use Rattle.cyp_text.specs.GrammarFaults.{backwards, spoils}
 use Rattle.cyp_text.proofs.KindsRead.{few_spoil}
 use Rattle.cyp_text.proofs.TokensParted.{last_two}
-use Rattle.cyp_text.proofs.parse.spoils_last.Goals as goal
+use Rattle.cyp_text.proofs.whole_text.spoils_last.Goals as goal
 
 pub returns-in_default : goal.returns-in_default
 returns-in_default c = λ text d. few_spoil text c.args.before.now (said_by c.args.next d) c.in_default.len_below
