@@ -47,3 +47,9 @@ pub mod Tidied
 pub mod Spreading
 pub mod TidyLeaves
 pub mod VarTables
+pub mod Counts
+pub mod FewTerms
+pub mod Finished
+pub mod NumberedKeeps
+pub mod ReadyNodes
+pub mod RenumberAll

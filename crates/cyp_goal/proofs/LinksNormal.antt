@@ -3,6 +3,7 @@ use Rattle.std.proofs.Common.{◌≡◌, ◌||◌, [], ap, ℕ, zero, suc, List,
 use Rattle.std.specs.List.{AllByRecursion}
 use Rattle.std.specs.Option.{option_and_then}
 use Rattle.std.proofs.lemmas.Bool.{cond_both}
+use Rattle.std.proofs.lemmas.Option.{IfSome_then}
 use Rattle.cyp_goal.specs.Normal.{Renaming, keep_limits, normal, solve, tidy_node}
 use Rattle.cyp_goal.specs.Numbering.{numbering, renumber}
 use Rattle.cyp_goal.specs.Pruning.{only_vars, prune}
@@ -78,7 +79,11 @@ module _ (P : Node → Type 0) (kept : IsKept P) where
   prune_kept : (n : Node) → P n → P (prune n)
   prune_kept n p = kept.maps (record n { goal = (prune n).goal }) _ (kept.beside n (prune n).goal refl refl p)
 
-  renumber_kept : (n : Node) → P n → P (renumber n)
+  -- the node before it is numbered
+  pub pruned_kept : (n : Node) → P n → IfSome (solve n) (λ m. P (prune (tidy_node m)))
+  pruned_kept n p = IfSome_then (solve n) (solve_kept n p) (λ m q. prune_kept (tidy_node m) (tidy_kept m q))
+
+  pub renumber_kept : (n : Node) → P n → P (renumber n)
   renumber_kept n p =
       let m : Node = apply_node (numbering (node_vars n)) n in
       kept.beside m (renumber n).goal refl refl (kept.applied (numbering (node_vars n)) (numbering_keeps (node_vars n)) n p)
@@ -106,7 +111,7 @@ same_sides preds g h e d s = record {
   post = subst (λ (x : Heap). AllByRecursion (FitsPost preds) x.chunks) (sym d) s.post;
 }
 
-linked_kept : IsKept IsWellLinked
+pub linked_kept : IsKept IsWellLinked
 linked_kept = record {
   applied = λ by k n w. IsWellLinked-map (apply_link by) (apply_link_keeps by) n (apply_node by n).goal w;
   beside = λ n g e f w. IsWellLinked-goal n g w;
@@ -122,7 +127,7 @@ pub record FitsOver (preds : Preds) (n : Node) : Type 0 where
   pub same : n.preds ≡ preds
   pub sides : SidesFit preds n.goal
 
-fits_kept : (preds : Preds) → IsKept (FitsOver preds)
+pub fits_kept : (preds : Preds) → IsKept (FitsOver preds)
 fits_kept preds = record {
   applied = λ by k n f. record { same = f.same; sides = applied_sides by preds k n.goal f.sides };
   beside = λ n g e d f. record { same = f.same; sides = same_sides preds n.goal g e d f.sides };

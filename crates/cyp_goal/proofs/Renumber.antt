@@ -47,7 +47,7 @@ set_image_at f (u ∷ us) v k =
     cond_both (var_eq u v) (Some (f u)) (set_image (map (λ w. record { var = w; to = f w }) us) v) (λ o. o ≡ Some (f v))
     (λ e. ap (λ w. Some (f w)) ((Decides-var_eq u v).0 e)) (λ e. set_image_at f us v (among_rest u us v e k))
 
-map_where_twice : {A B : Type 0} (f : A → B) (g : A → B) (h : A → A) (xs : List A) → ((x : A) → Among x xs → f x ≡ g (h x)) → map f xs ≡ map g (map h xs)
+pub map_where_twice : {A B : Type 0} (f : A → B) (g : A → B) (h : A → A) (xs : List A) → ((x : A) → Among x xs → f x ≡ g (h x)) → map f xs ≡ map g (map h xs)
 map_where_twice f g h [] e = refl
 map_where_twice f g h (x ∷ xs) e =
     let first = e x (inl refl) in
@@ -86,7 +86,7 @@ module _ (vs : List Var) (r : Var → Var) (is : IsRenaming r) (new : (v : Var) 
   base_named t (Some v) e h k =
       ap (term_at t) (int_named v (and_parts (no_set v) true h).0 (k v (inl refl))) ∙ ap (λ z. record { base = Some (r v); offset = z }) (zero-plus t.offset)
 
-  term_named : (t : Term) → term_fits no_set t ≡ true → In (term_vars t) → apply_term by t ≡ rename_term r t
+  pub term_named : (t : Term) → term_fits no_set t ≡ true → In (term_vars t) → apply_term by t ≡ rename_term r t
   term_named t h k = base_named t t.base refl h k
 
   terms_named : (ts : List Term) → list_all (term_fits no_set) ts ≡ true → In (flat_map term_vars ts) → map (apply_term by) ts ≡ map (rename_term r) ts
@@ -113,13 +113,13 @@ module _ (vs : List Var) (r : Var → Var) (is : IsRenaming r) (new : (v : Var) 
       ∙ without_repeats-map (rename_term r) term_eq term_eq (term_eq-rename r is) u.elems in
       λ i. record { vars = vars i; elems = elems i }
 
-  set_term_named : (u : SetTerm) → set_fits no_set is_set_var u ≡ true → In (set_vars u) → apply_set by u ≡ rename_set r (shrink_set u)
+  pub set_term_named : (u : SetTerm) → set_fits no_set is_set_var u ≡ true → In (set_vars u) → apply_set by u ≡ rename_set r (shrink_set u)
   set_term_named u h k = set_named_by u (set_parts no_set is_set_var u h) k
 
   once_named : (u : SetTerm) → set_fits no_set is_set_var u ≡ true → set_once u ≡ true → In (set_vars u) → apply_set by u ≡ rename_set r u
   once_named u h o k = set_term_named u h k ∙ ap (rename_set r) (shrink_once u o)
 
-  two_named : {A B C : Type 0} (f : A → B → C) (a a' : A) (b b' : B) (x y : Bool) (us ws : List Var) → (x ≡ true → In us → a ≡ a') → (y ≡ true → In ws → b ≡ b') → (x && y) ≡ true → In (us ++ ws) → f a b ≡ f a' b'
+  pub two_named : {A B C : Type 0} (f : A → B → C) (a a' : A) (b b' : B) (x y : Bool) (us ws : List Var) → (x ≡ true → In us → a ≡ a') → (y ≡ true → In ws → b ≡ b') → (x && y) ≡ true → In (us ++ ws) → f a b ≡ f a' b'
   two_named f a a' b b' x y us ws g h e k =
       let both = and_parts x y e in
       ap₂ f (g both.0 (λ v i. k v (Among-left v us ws i))) (h both.1 (λ v i. k v (Among-right v us ws i)))
@@ -174,7 +174,7 @@ module _ (vs : List Var) (r : Var → Var) (is : IsRenaming r) (new : (v : Var) 
       two_named (λ s t. Cell (record { at = s; content = t })) _ _ _ _ (term_fits no_set c.at) (term_fits no_set c.content) (term_vars c.at) (term_vars c.content)
       (term_named c.at) (term_named c.content) h k
 
-  chunks_named : (cs : List Chunk) → list_all (chunk_fits no_set is_set_var) cs ≡ true → In (chunks_vars cs) → map (apply_chunk by) cs ≡ map (rename_chunk r) (map shrink_chunk cs)
+  pub chunks_named : (cs : List Chunk) → list_all (chunk_fits no_set is_set_var) cs ≡ true → In (chunks_vars cs) → map (apply_chunk by) cs ≡ map (rename_chunk r) (map shrink_chunk cs)
   chunks_named cs h k = map_where_twice (apply_chunk by) (rename_chunk r) shrink_chunk cs (λ c i. chunk_named c (each_at (chunk_fits no_set is_set_var) c cs h i) (λ v m. k v (flat_in chunk_vars v c cs i m)))
 
   ints_named : (bs : List IntBind) → list_all (λ (b : IntBind). term_fits no_set b.to) bs ≡ true → In (flat_map (λ (b : IntBind). term_vars b.to) bs) → map (apply_bind by) bs ≡ map (rename_int_bind r) bs
@@ -193,7 +193,7 @@ module _ (vs : List Var) (r : Var → Var) (is : IsRenaming r) (new : (v : Var) 
       two_named (λ xs ys. record { ints = xs; sets = ys }) _ _ _ _ (list_all (λ (b : IntBind). term_fits no_set b.to) m.ints) (list_all (λ (b : SetBind). set_fits no_set is_set_var b.to) m.sets)
       (flat_map (λ (b : IntBind). term_vars b.to) m.ints) (flat_map (λ (b : SetBind). set_vars b.to) m.sets) (ints_named m.ints) (sets_named m.sets) h k
 
-  link_named : (k : Link) → link_fits no_set is_set_var k ≡ true → In (link_vars r k) → apply_link by k ≡ rename_link r (shrink_link k)
+  pub link_named : (k : Link) → link_fits no_set is_set_var k ≡ true → In (link_vars r k) → apply_link by k ≡ rename_link r (shrink_link k)
   link_named k h i =
       two_named (λ t m. record { goal = k.goal; own = k.own; map = m; tuple = t }) _ _ _ _ (list_all (term_fits no_set) k.tuple) (images_fit no_set is_set_var k.map)
       (flat_map term_vars k.tuple) (image_vars k.map) (terms_named k.tuple) (images_named k.map) h i
@@ -214,7 +214,7 @@ module _ (n : Node) where
       (Among-left v (g.program ++ chunks_vars g.pre.chunks ++ chunks_vars g.post.chunks) (lits_vars g.pure_pre)
       (Among-left v (g.program ++ chunks_vars g.pre.chunks) (chunks_vars g.post.chunks) (Among-left v g.program (chunks_vars g.pre.chunks) k))))
 
-  of_pre : (v : Var) → Among v (chunks_vars n.goal.pre.chunks) → Among v (node_vars n)
+  pub of_pre : (v : Var) → Among v (chunks_vars n.goal.pre.chunks) → Among v (node_vars n)
   of_pre v k =
       let g : Goal = n.goal in
       of_goal v
@@ -230,7 +230,7 @@ module _ (n : Node) where
       (Among-left v (g.program ++ chunks_vars g.pre.chunks ++ chunks_vars g.post.chunks) (lits_vars g.pure_pre)
       (Among-right v (g.program ++ chunks_vars g.pre.chunks) (chunks_vars g.post.chunks) k)))
 
-  of_pure_pre : (v : Var) → Among v (lits_vars n.goal.pure_pre) → Among v (node_vars n)
+  pub of_pure_pre : (v : Var) → Among v (lits_vars n.goal.pure_pre) → Among v (node_vars n)
   of_pure_pre v k =
       let g : Goal = n.goal in
       of_goal v
@@ -242,7 +242,7 @@ module _ (n : Node) where
       let g : Goal = n.goal in
       of_goal v (Among-right v (g.program ++ chunks_vars g.pre.chunks ++ chunks_vars g.post.chunks ++ lits_vars g.pure_pre) (lits_vars g.pure_post) k)
 
-  of_links : (v : Var) → Among v later → Among v (node_vars n)
+  pub of_links : (v : Var) → Among v later → Among v (node_vars n)
   of_links v k = without_repeats_in var_eq Decides-var_eq v (goal_vars n.goal ++ later) (Among-right v (goal_vars n.goal) later k)
 
   -- numbering is a renaming, where each variable has the sort of its place and each existential stands somewhere

@@ -81,11 +81,11 @@ set_same u =
     same_append (without_repeats var_eq u.vars) u.vars (flat_map term_vars (without_repeats term_eq u.elems)) (flat_map term_vars u.elems)
     (same_once_vars u.vars) (same_once term_eq Decides-term_eq term_vars u.elems)
 
-same_self : (xs : List Var) → AddSame xs xs
+pub same_self : (xs : List Var) → AddSame xs xs
 same_self xs seen = refl
 
 -- the elements under a map
-same_mapped : {A : Type 0} (f : A → A) (vars : A → List Var) → ((x : A) → AddSame (vars (f x)) (vars x)) → (xs : List A) → AddSame (flat_map vars (map f xs)) (flat_map vars xs)
+pub same_mapped : {A : Type 0} (f : A → A) (vars : A → List Var) → ((x : A) → AddSame (vars (f x)) (vars x)) → (xs : List A) → AddSame (flat_map vars (map f xs)) (flat_map vars xs)
 same_mapped f vars h [] seen = refl
 same_mapped f vars h (x ∷ xs) seen =
     same_append (vars (f x)) (vars x) (flat_map vars (map f xs)) (flat_map vars xs) (h x) (same_mapped f vars h xs) seen

@@ -16,3 +16,5 @@ pub mod Renamed
 pub mod RenamingLaw
 pub mod Turns
 pub mod VarTables
+pub mod Counting
+pub mod Ready

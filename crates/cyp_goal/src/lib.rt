@@ -1,12 +1,14 @@
-//! The normal form of a goal with its companions, and the facts of a goal: definitions, and laws
-//! of the normal form.
+//! The normal form of a goal with its companions, and the facts of a goal.
 #![tactic(auto)]
 
 mod addresses;
 mod draft;
+mod elements;
 mod equations;
 mod goal_facts;
 mod laws;
+mod limits;
+mod normal_form;
 mod numbering;
 mod occurs;
 mod once;
@@ -15,6 +17,7 @@ mod solving;
 mod substitution;
 mod tidying;
 mod touches;
+mod units;
 mod var_table;
 
 pub use draft::TooLarge;
@@ -23,3 +26,7 @@ pub use laws::{
     normal_of_a_normal_form, normal_over_other_predicates, normal_under_new_logical_names,
     normal_under_new_names,
 };
+pub use normal_form::{Renamed, normal};
+
+#[cfg(test)]
+mod tests;

@@ -1,0 +1,289 @@
+ghost use Rattle.std.specs.Prelude.{[], ◌∷◌, None, IfOk, ◌≡◌};
+ghost use Rattle.cyp_heap.specs.Chunks.{insts};
+ghost use Rattle.cyp_term.specs.TermValue.{IsTerm};
+ghost use Rattle.cyp_term.specs.declared.term.Sort.TheVariants.{Int};
+
+use crate::draft::TooLarge;
+use crate::goal_facts::facts;
+use crate::normal_form::{Renamed, normal};
+use cyp_heap::{BlockAt, CellAt, Chunk, Goal, Heap, Link, Preds, Raw};
+use cyp_term::{Fail as Refused, List, Lit, NoMemory, Shared, Sort, Subst, Term, Var};
+use std::alloc::Global;
+use std::test::Fail;
+
+const WIDEST: i64 = 1 << 32;
+
+fn int(number: u8) -> Var
+    ensures { result ≡ record { sort = Int; number = number } }
+{
+    Var {
+        sort: Sort::Int,
+        number,
+    }
+}
+
+fn plus(number: u8, offset: i64) -> Term
+    requires { IsTerm None offset }
+{
+    Term::new(Some(int(number)), offset)
+}
+
+fn bare(number: u8) -> Term {
+    plus(number, 0)
+}
+
+fn plain(value: i64) -> Term
+    requires { IsTerm None value }
+{
+    Term::new(None, value)
+}
+
+fn positive(term: Term) -> Lit {
+    Lit::Lt(plain(0), term)
+}
+
+fn none<T>(alloc: Global) -> List<T>
+    ensures { result ≡ [] }
+{
+    List::from_vec(Vec::new(alloc))
+}
+
+fn one<T: Drop>(alloc: Global, item: T) -> Result<List<T>, NoMemory>
+    ensures { IfOk result (λ xs. xs ≡ item ∷ []) }
+{
+    let mut items = none(alloc);
+    items.push(alloc, item)?;
+    Ok(items)
+}
+
+fn two<T: Drop>(alloc: Global, first: T, second: T) -> Result<List<T>, NoMemory>
+    ensures { IfOk result (λ xs. xs ≡ first ∷ second ∷ []) }
+{
+    let mut items = none(alloc);
+    items.push(alloc, first)?;
+    items.push(alloc, second)?;
+    Ok(items)
+}
+
+fn three<T: Drop>(alloc: Global, first: T, second: T, third: T) -> Result<List<T>, NoMemory> {
+    let mut items = two(alloc, first, second)?;
+    items.push(alloc, third)?;
+    Ok(items)
+}
+
+/// The first variables.
+fn ints(alloc: Global, count: u8) -> Result<List<Var>, NoMemory> {
+    let mut vars = none(alloc);
+    for number in 0..count {
+        vars.push(alloc, int(number))?;
+    }
+    Ok(vars)
+}
+
+/// That each of the first variables is positive.
+fn all_positive(alloc: Global, count: u8) -> Result<List<Lit>, NoMemory> {
+    let mut lits = none(alloc);
+    for number in 0..count {
+        lits.push(alloc, positive(bare(number)))?;
+    }
+    Ok(lits)
+}
+
+/// Cells at these two places with these contents.
+fn cells(alloc: Global, first: (Term, Term), second: (Term, Term)) -> Result<Heap, NoMemory>
+    ensures { IfOk result (λ h. insts h.chunks ≡ []) }
+{
+    let chunks = two(
+        alloc,
+        Chunk::Cell(CellAt {
+            at: first.0,
+            content: first.1,
+        }),
+        Chunk::Cell(CellAt {
+            at: second.0,
+            content: second.1,
+        }),
+    )?;
+    Ok(Heap::new(chunks))
+}
+
+/// A goal without chunks.
+fn goal(alloc: Global, program: List<Var>, pure_pre: List<Lit>) -> Goal
+    ensures pre { result.pre.chunks ≡ [] }
+    ensures post { result.post.chunks ≡ [] }
+{
+    Goal {
+        program,
+        exist: none(alloc),
+        pure_pre,
+        pre: Heap::new(none(alloc)),
+        pure_post: none(alloc),
+        post: Heap::new(none(alloc)),
+    }
+}
+
+fn normal_of(alloc: Global, goal: Goal) -> Result<Renamed, Refused<TooLarge>>
+    requires pre { insts goal.pre.chunks ≡ [] }
+    requires post { insts goal.post.chunks ≡ [] }
+{
+    let preds = Shared::new(alloc, Preds::new(none(alloc)))?;
+    normal(alloc, Raw::new(preds, goal, none(alloc)))
+}
+
+#[test]
+fn refuses_a_thirteenth_program_variable(rt: HostRuntime) -> Result<(), Fail> {
+    let alloc = rt.alloc();
+    let many = goal(alloc, ints(alloc, 13)?, all_positive(alloc, 13)?);
+    assert_eq!(rt; normal_of(alloc, many), Err(Refused::Named(TooLarge)));
+    let most = goal(alloc, ints(alloc, 12)?, all_positive(alloc, 12)?);
+    let normal = normal_of(alloc, most)?;
+    assert_eq!(rt; normal.old, ints(alloc, 12)?);
+    assert_eq!(rt; normal.node.goal().pure_pre, all_positive(alloc, 12)?);
+    Ok(())
+}
+
+#[test]
+fn drops_a_dead_literal_and_a_repeated_one(rt: HostRuntime) -> Result<(), Fail> {
+    let alloc = rt.alloc();
+    let lits = three(
+        alloc,
+        positive(bare(5)),
+        positive(bare(3)),
+        positive(bare(3)),
+    )?;
+    let normal = normal_of(alloc, goal(alloc, one(alloc, int(3))?, lits))?;
+    assert_eq!(rt; normal.node.goal().pure_pre, all_positive(alloc, 1)?);
+    assert_eq!(rt; normal.node.goal().program, ints(alloc, 1)?);
+    assert_eq!(rt; normal.old, one(alloc, int(3))?);
+    Ok(())
+}
+
+#[test]
+fn solves_an_equation_for_its_left_side_first(rt: HostRuntime) -> Result<(), Fail> {
+    let alloc = rt.alloc();
+    let lits = three(
+        alloc,
+        Lit::Eq(bare(5), plus(6, 1)),
+        Lit::Lt(bare(5), bare(3)),
+        Lit::Lt(bare(6), bare(3)),
+    )?;
+    let normal = normal_of(alloc, goal(alloc, one(alloc, int(3))?, lits))?;
+    let expected = two(
+        alloc,
+        Lit::Lt(plus(1, 1), bare(0)),
+        Lit::Lt(bare(1), bare(0)),
+    )?;
+    assert_eq!(rt; normal.node.goal().pure_pre, expected);
+    Ok(())
+}
+
+#[test]
+fn solves_an_equation_of_the_post_for_an_existential(rt: HostRuntime) -> Result<(), Fail> {
+    let alloc = rt.alloc();
+    let mut goal = goal(alloc, one(alloc, int(3))?, none(alloc));
+    goal.exist = one(alloc, int(9))?;
+    goal.pure_post = two(
+        alloc,
+        Lit::Eq(bare(3), plus(9, 2)),
+        Lit::Lt(bare(9), bare(7)),
+    )?;
+    let normal = normal_of(alloc, goal)?;
+    let expected = one(alloc, Lit::Lt(plus(0, -2), bare(1)))?;
+    assert_eq!(rt; normal.node.goal().pure_post, expected);
+    assert_eq!(rt; normal.node.goal().exist.len(), 0);
+    Ok(())
+}
+
+#[test]
+fn refuses_an_offset_past_the_range(rt: HostRuntime) -> Result<(), Fail> {
+    let alloc = rt.alloc();
+    let past = two(
+        alloc,
+        Lit::Eq(bare(5), plus(3, WIDEST)),
+        positive(plus(5, 1)),
+    )?;
+    let wide = goal(alloc, one(alloc, int(3))?, past);
+    assert_eq!(rt; normal_of(alloc, wide), Err(Refused::Named(TooLarge)));
+    let within = two(alloc, Lit::Eq(bare(5), plus(3, WIDEST)), positive(bare(5)))?;
+    let normal = normal_of(alloc, goal(alloc, one(alloc, int(3))?, within))?;
+    let expected = one(alloc, positive(plus(0, WIDEST)))?;
+    assert_eq!(rt; normal.node.goal().pure_pre, expected);
+    Ok(())
+}
+
+#[test]
+fn says_that_the_least_address_of_a_base_is_positive(rt: HostRuntime) -> Result<(), Fail> {
+    let alloc = rt.alloc();
+    let mut goal = goal(alloc, one(alloc, int(3))?, none(alloc));
+    goal.pre = cells(alloc, (plus(3, 1), plain(0)), (bare(3), plain(0)))?;
+    let normal = normal_of(alloc, goal)?;
+    assert_eq!(rt; normal.node.goal().pure_pre, all_positive(alloc, 1)?);
+    Ok(())
+}
+
+#[test]
+fn numbers_the_pre_before_the_post(rt: HostRuntime) -> Result<(), Fail> {
+    let alloc = rt.alloc();
+    let mut goal = goal(alloc, one(alloc, int(3))?, none(alloc));
+    goal.pre = cells(alloc, (bare(3), bare(8)), (plus(3, 1), bare(7)))?;
+    goal.post = cells(alloc, (bare(3), bare(7)), (plus(3, 1), bare(8)))?;
+    let normal = normal_of(alloc, goal)?;
+    let pre = cells(alloc, (bare(0), bare(1)), (plus(0, 1), bare(2)))?;
+    let post = cells(alloc, (bare(0), bare(2)), (plus(0, 1), bare(1)))?;
+    assert_eq!(rt; normal.node.goal().pre, pre);
+    assert_eq!(rt; normal.node.goal().post, post);
+    Ok(())
+}
+
+/// A companion with an empty goal and a measure of one term: its own, and the node's.
+fn companion(alloc: Global, own: Term, tuple: Term) -> Result<List<Link>, NoMemory>
+    ensures { IfOk result (λ ks. ks ≡ record { goal = record { program = []; exist = []; pure_pre = []; pre = record { chunks = [] }; pure_post = []; post = record { chunks = [] } }; own = own ∷ []; map = record { ints = []; sets = [] }; tuple = tuple ∷ [] } ∷ []) }
+{
+    let goal = Goal {
+        program: none(alloc),
+        exist: none(alloc),
+        pure_pre: none(alloc),
+        pre: Heap::new(none(alloc)),
+        pure_post: none(alloc),
+        post: Heap::new(none(alloc)),
+    };
+    let link = Link {
+        goal: Shared::new(alloc, goal)?,
+        own: one(alloc, own)?,
+        map: Subst {
+            ints: none(alloc),
+            sets: none(alloc),
+        },
+        tuple: one(alloc, tuple)?,
+    };
+    one(alloc, link)
+}
+
+#[test]
+fn keeps_what_a_measure_speaks_of(rt: HostRuntime) -> Result<(), Fail> {
+    let alloc = rt.alloc();
+    let lits = two(alloc, positive(bare(6)), positive(bare(5)))?;
+    let preds = Shared::new(alloc, Preds::new(none(alloc)))?;
+    let goal = goal(alloc, none(alloc), lits);
+    let links = companion(alloc, bare(5), bare(5))?;
+    let normal = normal(alloc, Raw::new(preds, goal, links))?;
+    assert_eq!(rt; normal.node.goal().pure_pre, all_positive(alloc, 1)?);
+    let expected = companion(alloc, bare(5), bare(0))?;
+    assert!(rt; *normal.node.links() == expected);
+    Ok(())
+}
+
+#[test]
+fn knows_that_cells_and_blocks_lie_apart(rt: HostRuntime) -> Result<(), Fail> {
+    let alloc = rt.alloc();
+    let mut goal = goal(alloc, none(alloc), all_positive(alloc, 1)?);
+    goal.pre = cells(alloc, (bare(0), plain(5)), (bare(1), plain(5)))?;
+    let expected = two(alloc, positive(bare(0)), Lit::Ne(bare(0), bare(1)))?;
+    assert_eq!(rt; facts(alloc, &goal)?, expected);
+    let block = Chunk::Block(BlockAt::new(bare(2), 2));
+    let other = Chunk::Block(BlockAt::new(bare(3), 1));
+    goal.pre = Heap::new(two(alloc, block, other)?);
+    let expected = two(alloc, positive(bare(0)), Lit::Ne(bare(2), bare(3)))?;
+    assert_eq!(rt; facts(alloc, &goal)?, expected);
+    Ok(())
+}
