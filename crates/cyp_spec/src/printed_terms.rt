@@ -1,0 +1,108 @@
+ghost use Rattle.std.specs.Prelude.{None, OnOk, map, ◌≡◌};
+ghost use Rattle.cyp_grammar.specs.Lexemes.{Symbol};
+ghost use Rattle.cyp_grammar.specs.Spelling.{more_spelling};
+ghost use Rattle.cyp_lex.specs.declared.token.Sign.TheVariants.{TwoPluses};
+ghost use Rattle.cyp_spec.specs.PrintMarks.{with_marks};
+ghost use Rattle.cyp_spec.specs.PrintParts.{elem_marks, offset_marks, set_marks, term_marks, var_marks};
+ghost use Rattle.cyp_text.specs.Grammar.{braces_spelling, int_spelling};
+ghost use Rattle.cyp_text.specs.PrintedTrees.{term_tree, term_tree_by};
+
+use crate::printed_lists::{Print, print_apart};
+use crate::printer::Printer;
+use cyp_heap::Preds;
+use cyp_lex::Sign;
+use cyp_term::{NoMemory, SetTerm, Term, Var};
+
+impl Print for Term {
+    ghost spelling = { term_marks };
+
+    fn print(&self, _preds: &Preds, to: &mut Printer) -> Result<(), NoMemory> {
+        to.term(self)
+    }
+}
+
+impl Printer {
+    pub(crate) fn var(&mut self, var: Var) -> Result<(), NoMemory>
+        ensures { OnOk result (self.new ≡ with_marks self.old (var_marks var)) }
+    {
+        self.variable(var.sort, u64::from(var.number) + 1)
+    }
+
+    /// Prints a number, and a minus before it if it is negative.
+    fn constant(&mut self, number: i64) -> Result<(), NoMemory>
+        ensures { OnOk result (self.new ≡ with_marks self.old (int_spelling (term_tree_by None number))) }
+    {
+        if number < 0 {
+            self.sign(Sign::Minus)?;
+        }
+        self.number(number.unsigned_abs())
+    }
+
+    /// Prints what a term adds to its variable.
+    fn offset(&mut self, offset: i64) -> Result<(), NoMemory>
+        ensures { OnOk result (self.new ≡ with_marks self.old (offset_marks offset)) }
+    {
+        if offset == 0 {
+            return Ok(());
+        }
+        self.sign(if offset > 0 { Sign::Plus } else { Sign::Minus })?;
+        self.number(offset.unsigned_abs())
+    }
+
+    pub(crate) fn term(&mut self, term: &Term) -> Result<(), NoMemory>
+        ensures { OnOk result (self.new ≡ with_marks self.old (int_spelling (term_tree term.now))) }
+    {
+        match term.base() {
+            None => self.constant(term.offset()),
+            Some(var) => {
+                self.var(var)?;
+                self.offset(term.offset())
+            }
+        }
+    }
+
+    /// Prints terms in braces.
+    fn braces(&mut self, preds: &Preds, elems: &[Term]) -> Result<(), NoMemory>
+        ensures { OnOk result (self.new ≡ with_marks self.old (braces_spelling 0 (map term_tree elems.now))) }
+    {
+        self.sign(Sign::LeftBrace)?;
+        print_apart(elems, Sign::Comma, preds, self)?;
+        self.sign(Sign::RightBrace)
+    }
+
+    /// Prints the variables of a union behind its first.
+    fn more_vars(&mut self, vars: &[Var]) -> Result<(), NoMemory>
+        ensures { OnOk result (self.new ≡ with_marks self.old (more_spelling (Symbol TwoPluses) var_marks vars.now)) }
+    {
+        for var in vars {
+            self.sign(Sign::TwoPluses)?;
+            self.var(*var)?;
+        }
+        Ok(())
+    }
+
+    /// Prints the elements of a union behind its variables, if it has any.
+    fn more_elems(&mut self, preds: &Preds, elems: &[Term]) -> Result<(), NoMemory>
+        ensures { OnOk result (self.new ≡ with_marks self.old (elem_marks elems.now)) }
+    {
+        if elems.is_empty() {
+            return Ok(());
+        }
+        self.sign(Sign::TwoPluses)?;
+        self.braces(preds, elems)
+    }
+
+    /// Prints a union: its variables, and then its elements in braces.
+    pub(crate) fn set(&mut self, preds: &Preds, set: &SetTerm) -> Result<(), NoMemory>
+        ensures { OnOk result (self.new ≡ with_marks self.old (set_marks set.now)) }
+    {
+        match set.vars() {
+            [] => self.braces(preds, set.elems()),
+            [first, more @ ..] => {
+                self.var(*first)?;
+                self.more_vars(more)?;
+                self.more_elems(preds, set.elems())
+            }
+        }
+    }
+}
