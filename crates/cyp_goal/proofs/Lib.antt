@@ -2,6 +2,7 @@ pub mod Added
 pub mod AddressLits
 pub mod AllNew
 pub mod Differing
+pub mod DressedNormal
 pub mod EachVar
 mod Examples
 pub mod Extended

@@ -9,6 +9,7 @@ pub mod Least
 pub mod Normal
 pub mod Facts
 pub mod Failures
+pub mod Dressed
 pub mod Raw
 pub mod Laws
 pub mod Renamed

@@ -1,5 +1,6 @@
 //! Laws of the normal form, each proved as the contract of a function that does nothing.
 
+ghost use Rattle.cyp_goal.specs.Dressed.{DressingLaw};
 ghost use Rattle.cyp_goal.specs.Laws.{NormalOfNormal};
 ghost use Rattle.cyp_goal.specs.RenamingLaw.{LogicalRenamingLaw, RenamingLaw};
 
@@ -22,4 +23,11 @@ pub fn normal_under_new_names()
 /// logical variables and existentials are called. The same is asked.
 pub fn normal_under_new_logical_names()
     ensures { LogicalRenamingLaw }
+{}
+
+/// Law: the normal form looks neither at the predicates of a node nor at the sizes of the blocks of
+/// its goal. With others in their place it is the same but for these, and there is none where there
+/// was none.
+pub fn normal_over_other_predicates()
+    ensures { DressingLaw }
 {}

@@ -19,4 +19,7 @@ mod var_table;
 
 pub use draft::TooLarge;
 pub use goal_facts::facts;
-pub use laws::{normal_of_a_normal_form, normal_under_new_logical_names, normal_under_new_names};
+pub use laws::{
+    normal_of_a_normal_form, normal_over_other_predicates, normal_under_new_logical_names,
+    normal_under_new_names,
+};

@@ -16,7 +16,7 @@ use Rattle.cyp_term.proofs.Lists.{Among, Every-among, Every-from_among}
 use Rattle.cyp_term.proofs.Literals.{IntTruth, SetTruth, int_truth, set_truth}
 use Rattle.cyp_term.proofs.Regions.{Decides-parts}
 use Rattle.cyp_diff.specs.Solving.{AreInts}
-use Rattle.cyp_sets.specs.Saying.{AreSets}
+use Rattle.cyp_sets.specs.Asking.{AreSets}
 use Rattle.cyp_pure.specs.declared.dealing.Dealing.{Dealing}
 use Rattle.cyp_pure.specs.declared.dealing.Question.{Question}
 use Rattle.cyp_pure.specs.Dealing.{Agrees, CanDeal, IsDealt}

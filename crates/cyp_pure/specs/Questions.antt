@@ -7,7 +7,7 @@ use Rattle.cyp_term.specs.Meaning.{AllTrue, Assignment}
 use Rattle.cyp_term.specs.Regions.{all_set_vars, all_terms}
 use Rattle.cyp_term.specs.Terms.{lits_vars, term_vars, var_eq, without_repeats}
 use Rattle.cyp_diff.specs.Solving.{AreInts}
-use Rattle.cyp_sets.specs.Saying.{AreSets}
+use Rattle.cyp_sets.specs.Asking.{AreSets}
 use Rattle.cyp_pure.specs.declared.dealing.Question.{Question}
 
 -- some integers and finite sets make all the literals of both lists true

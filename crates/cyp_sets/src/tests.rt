@@ -78,14 +78,6 @@ fn set(alloc: Global, number: u8) -> Result<SetTerm, Fail> {
     Ok(SetTerm::new(List::from_vec(vars), List::from_vec(Vec::new(alloc))))
 }
 
-/// The set of these elements.
-fn braces(alloc: Global, elems: &[Term]) -> Result<SetTerm, Fail> {
-    Ok(SetTerm::new(
-        List::from_vec(Vec::new(alloc)),
-        List::from_vec(elems.to_vec(alloc)?),
-    ))
-}
-
 fn member(alloc: Global, number: u8, of: u8) -> Result<Lit, Fail> {
     Ok(Lit::Member(elem(number), set(alloc, of)?))
 }
@@ -100,10 +92,6 @@ fn sub(alloc: Global, a: u8, b: u8) -> Result<Lit, Fail> {
 
 fn not_sub(alloc: Global, a: u8, b: u8) -> Result<Lit, Fail> {
     Ok(Lit::NotSub(set(alloc, a)?, set(alloc, b)?))
-}
-
-fn not_same(alloc: Global, a: u8, b: u8) -> Result<Lit, Fail> {
-    Ok(Lit::NotSame(set(alloc, a)?, set(alloc, b)?))
 }
 
 /// `a in s`, and `not (b in s)`.
@@ -136,41 +124,6 @@ fn decides_both_lists_together(rt: HostRuntime) -> Result<(), Fail> {
     Ok(())
 }
 
-#[test]
-fn compares_single_elements(rt: HostRuntime) -> Result<(), Fail> {
-    let alloc = rt.alloc();
-    let mut same = Vec::new(alloc);
-    same.push(Lit::Same(braces(alloc, &[elem(0)])?, braces(alloc, &[elem(1)])?))?;
-    assert!(rt; !answer(alloc, same.as_slice(), &[0, 1])?);
-    assert!(rt; answer(alloc, same.as_slice(), &[4, 4])?);
-    Ok(())
-}
-
-#[test]
-fn finds_no_difference_between_sets_in_each_other(rt: HostRuntime) -> Result<(), Fail> {
-    let alloc = rt.alloc();
-    let mut lits = Vec::new(alloc);
-    lits.push(not_same(alloc, 0, 1)?)?;
-    lits.push(sub(alloc, 0, 1)?)?;
-    assert!(rt; answer(alloc, lits.as_slice(), &[])?);
-    lits.push(sub(alloc, 1, 0)?)?;
-    assert!(rt; !answer(alloc, lits.as_slice(), &[])?);
-    Ok(())
-}
-
-/// A member of a set is a member of a greater one: its class has no region.
-#[test]
-fn refuses_a_class_without_a_region(rt: HostRuntime) -> Result<(), Fail> {
-    let alloc = rt.alloc();
-    let mut lits = Vec::new(alloc);
-    lits.push(member(alloc, 0, 0)?)?;
-    lits.push(sub(alloc, 0, 1)?)?;
-    assert!(rt; answer(alloc, lits.as_slice(), &[0])?);
-    lits.push(not_member(alloc, 0, 1)?)?;
-    assert!(rt; !answer(alloc, lits.as_slice(), &[0])?);
-    Ok(())
-}
-
 /// Twelve sets, each in the next.
 fn chain(alloc: Global) -> Result<Vec<Lit>, Fail> {
     let mut lits = Vec::new(alloc);
@@ -181,62 +134,23 @@ fn chain(alloc: Global) -> Result<Vec<Lit>, Fail> {
 }
 
 #[test]
-fn follows_a_chain_of_twelve_sets(rt: HostRuntime) -> Result<(), Fail> {
+fn finds_a_member_of_the_first_of_twelve_sets_in_the_last(rt: HostRuntime) -> Result<(), Fail> {
+    let alloc = rt.alloc();
+    let mut lits = chain(alloc)?;
+    lits.push(member(alloc, 0, 0)?)?;
+    assert!(rt; answer(alloc, lits.as_slice(), &[0])?);
+    lits.push(not_member(alloc, 0, 11)?)?;
+    assert!(rt; !answer(alloc, lits.as_slice(), &[0])?);
+    Ok(())
+}
+
+#[test]
+fn finds_the_first_of_twelve_sets_within_the_last(rt: HostRuntime) -> Result<(), Fail> {
     let alloc = rt.alloc();
     let mut lits = chain(alloc)?;
     lits.push(not_sub(alloc, 11, 0)?)?;
     assert!(rt; answer(alloc, lits.as_slice(), &[])?);
     lits.push(not_sub(alloc, 0, 11)?)?;
     assert!(rt; !answer(alloc, lits.as_slice(), &[])?);
-    Ok(())
-}
-
-/// Five sets of at most six elements, none within another.
-fn antichain(alloc: Global) -> Result<Vec<Lit>, Fail> {
-    let elems = [elem(0), elem(1), elem(2), elem(3), elem(4), elem(5)];
-    let mut lits = Vec::new(alloc);
-    for i in 0..5 {
-        lits.push(Lit::Sub(set(alloc, i)?, braces(alloc, &elems)?))?;
-        for j in 0..i {
-            lits.push(not_sub(alloc, i, j)?)?;
-            lits.push(not_sub(alloc, j, i)?)?;
-        }
-    }
-    Ok(lits)
-}
-
-/// How many of the arrangements that begin with these classes the literals allow, with `left` terms to come and `most` classes
-/// so far.
-fn count_allowed(
-    alloc: Global,
-    lits: &[Lit],
-    classes: &mut Vec<u8>,
-    most: u8,
-    left: u8,
-) -> Result<u32, Fail> {
-    if left == 0 {
-        return Ok(u32::from(answer(alloc, lits, classes.as_slice())?));
-    }
-    let mut count: u32 = 0;
-    for class in 0..most.saturating_add(1) {
-        classes.push(class)?;
-        let more = most.max(class.saturating_add(1));
-        count = count.saturating_add(count_allowed(alloc, lits, classes, more, left - 1)?);
-        let _ = classes.pop();
-    }
-    Ok(count)
-}
-
-/// By Sperner's theorem there are such sets exactly where the elements have four values or more, which is so in 65 + 15 + 1 of
-/// the 203 arrangements.
-#[test]
-fn finds_antichains_exactly_where_there_are_some(rt: HostRuntime) -> Result<(), Fail> {
-    let alloc = rt.alloc();
-    let lits = antichain(alloc)?;
-    let mut classes = Vec::new(alloc);
-    assert_eq!(rt;
-        count_allowed(alloc, lits.as_slice(), &mut classes, 0, 6)?,
-        81
-    );
     Ok(())
 }

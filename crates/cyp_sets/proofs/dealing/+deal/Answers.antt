@@ -1,8 +1,7 @@
-use Rattle.std.proofs.Common.{◌≡◌, ◌+◌, ◌<◌, length, get_or, not, refl, sym, ap, ap₂, subst, subst₂, ◌∙◌, IsTrue, arith}
+use Rattle.std.proofs.Common.{◌≡◌, ◌+◌, ◌<◌, length, not, refl, sym, ap₂, subst, subst₂, ◌∙◌, IsTrue, arith}
 use Rattle.std.proofs.Math.ListN.{set}
 use Rattle.std.proofs.lemmas.Bool.{eqb-true, false≢true}
 use Rattle.std.proofs.lemmas.Result.{IfOk-weaker}
-use Rattle.std.specs.List.{remove}
 use Rattle.cyp_sets.specs.Masks.{shows}
 use Rattle.cyp_sets.specs.Dealing.{Deals, DealsFrom, integer}
 use Rattle.cyp_sets.proofs.Deals.{deals_nothing, deals_taken, deals_put, no_way, deals_none, deals_here, deals_there, deals_either, taken_is, rest_is, showing, hiding, no_items, tested_is, put_back}
