@@ -1,12 +1,12 @@
 -- How terms and unions are spelled, by their parts.
 use Rattle.std.proofs.Common.{List, [], None, Option, Some, ap, append_assoc, map, refl, sym, ◌++◌, ◌∙◌, ◌∷◌, ◌≡◌}
-use Rattle.std.specs.Prelude.{negsuc, pos, suc, zero, ℤ}
+use Rattle.std.specs.Prelude.{int_lt, negsuc, pos, suc, unsigned_abs, zero, ℤ}
 use Rattle.std.proofs.lemmas.List.{append-nil}
 use Rattle.cyp_grammar.specs.Lexemes.{Symbol}
 use Rattle.cyp_grammar.specs.Spelling.{Any, Mark, more_spelling}
 use Rattle.cyp_heap.specs.declared.chunk.Arg.{Arg}
 use Rattle.cyp_lex.specs.declared.token.Sign.TheVariants.{TwoPluses}
-use Rattle.cyp_spec.specs.PrintParts.{elem_marks, offset_marks, set_marks, var_marks}
+use Rattle.cyp_spec.specs.PrintParts.{constant_marks, elem_marks, offset_marks, set_marks, var_marks}
 use Rattle.cyp_spec.proofs.PrintLists.{more_append, more_map}
 use Rattle.cyp_term.specs.declared.lit.SetTerm.{SetTerm}
 use Rattle.cyp_term.specs.declared.term.Term.{Term}
@@ -18,10 +18,23 @@ use Rattle.cyp_text.specs.declared.tree.PartTree.TheVariants.{Braces, PartName}
 
 -- ---- terms
 
-pub based_term : (v : Var) (z : ℤ) → int_spelling (term_tree_by (Some v) z) ≡ var_marks v ++ offset_marks z
+constant_term : (z : ℤ) → int_spelling (term_tree_by None z) ≡ constant_marks (int_lt z (pos 0)) (unsigned_abs z)
+constant_term (pos n) = refl
+constant_term (negsuc n) = refl
+
+based_term : (v : Var) (z : ℤ) → int_spelling (term_tree_by (Some v) z) ≡ var_marks v ++ offset_marks (int_lt z (pos 0)) (unsigned_abs z)
 based_term v (pos zero) = refl
 based_term v (pos (suc n)) = refl
 based_term v (negsuc n) = refl
+
+by_parts : (t : Term) (b : Option Var) (z : ℤ) → b ≡ t.base → z ≡ t.offset → int_spelling (term_tree t) ≡ int_spelling (term_tree_by b z)
+by_parts t b z e f = sym (ap (λ c. int_spelling (term_tree_by c z)) e ∙ ap (λ y. int_spelling (term_tree_by t.base y)) f)
+
+pub constant_spelled : (t : Term) (b : Option Var) (z : ℤ) → b ≡ t.base → z ≡ t.offset → b ≡ None → int_spelling (term_tree t) ≡ constant_marks (int_lt z (pos 0)) (unsigned_abs z)
+constant_spelled t b z e f none = by_parts t b z e f ∙ ap (λ c. int_spelling (term_tree_by c z)) none ∙ constant_term z
+
+pub based_spelled : (t : Term) (b : Option Var) (z : ℤ) (v : Var) → b ≡ t.base → z ≡ t.offset → b ≡ Some v → int_spelling (term_tree t) ≡ var_marks v ++ offset_marks (int_lt z (pos 0)) (unsigned_abs z)
+based_spelled t b z v e f some = by_parts t b z e f ∙ ap (λ c. int_spelling (term_tree_by c z)) some ∙ based_term v z
 
 -- ---- unions
 

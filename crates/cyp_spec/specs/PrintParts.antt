@@ -1,6 +1,6 @@
 -- How the parts of a specification are spelled where they are printed.
-use Rattle.std.specs.Prelude.{[], List, decimal, map, negsuc, pos, suc, zero, ℕ, ℤ, ◌++◌, ◌∷◌}
-use Rattle.cyp_grammar.specs.Lexemes.{Number, Reserved}
+use Rattle.std.specs.Prelude.{[], Bool, List, decimal, false, map, suc, true, zero, ℕ, ◌++◌, ◌∷◌}
+use Rattle.cyp_grammar.specs.Lexemes.{Number, Reserved, Symbol}
 use Rattle.cyp_grammar.specs.Spelling.{Any, At, Mark, ident, sign}
 use Rattle.cyp_heap.specs.declared.chunk.Arg.{Arg}
 use Rattle.cyp_heap.specs.declared.chunk.Chunk.{Chunk}
@@ -22,11 +22,16 @@ use Rattle.cyp_text.specs.declared.tree.IntTree.TheVariants.{Named}
 abbrev pub var_marks : Var → List Mark
 var_marks v = ident (var_ident v) ∷ []
 
--- what a term adds to its variable
-abbrev pub offset_marks : ℤ → List Mark
-offset_marks (pos zero) = []
-offset_marks (pos (suc n)) = sign Plus ∷ Any (Number (suc n)) ∷ []
-offset_marks (negsuc n) = sign Minus ∷ Any (Number (suc n)) ∷ []
+-- a number of this size, which is negative or not
+abbrev pub constant_marks : Bool → ℕ → List Mark
+constant_marks false n = At (Number n) 0 ∷ []
+constant_marks true n = At (Symbol Minus) 0 ∷ Any (Number n) ∷ []
+
+-- what a term adds to its variable, of this size and negative or not
+abbrev pub offset_marks : Bool → ℕ → List Mark
+offset_marks b zero = []
+offset_marks false n = sign Plus ∷ Any (Number n) ∷ []
+offset_marks true n = sign Minus ∷ Any (Number n) ∷ []
 
 -- a term
 abbrev pub term_marks : Preds → Term → List Mark

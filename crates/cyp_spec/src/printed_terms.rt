@@ -1,11 +1,11 @@
-ghost use Rattle.std.specs.Prelude.{None, OnOk, map, ◌≡◌};
+ghost use Rattle.std.specs.Prelude.{OnOk, map, ◌≡◌};
 ghost use Rattle.cyp_grammar.specs.Lexemes.{Symbol};
 ghost use Rattle.cyp_grammar.specs.Spelling.{more_spelling};
 ghost use Rattle.cyp_lex.specs.declared.token.Sign.TheVariants.{TwoPluses};
 ghost use Rattle.cyp_spec.specs.PrintMarks.{with_marks};
-ghost use Rattle.cyp_spec.specs.PrintParts.{elem_marks, offset_marks, set_marks, term_marks, var_marks};
+ghost use Rattle.cyp_spec.specs.PrintParts.{constant_marks, elem_marks, offset_marks, set_marks, term_marks, var_marks};
 ghost use Rattle.cyp_text.specs.Grammar.{braces_spelling, int_spelling};
-ghost use Rattle.cyp_text.specs.PrintedTrees.{term_tree, term_tree_by};
+ghost use Rattle.cyp_text.specs.PrintedTrees.{term_tree};
 
 use crate::printed_lists::{Print, print_apart};
 use crate::printer::Printer;
@@ -28,35 +28,43 @@ impl Printer {
         self.variable(var.sort, u64::from(var.number) + 1)
     }
 
-    /// Prints a number, and a minus before it if it is negative.
-    fn constant(&mut self, number: i64) -> Result<(), NoMemory>
-        ensures { OnOk result (self.new ≡ with_marks self.old (int_spelling (term_tree_by None number))) }
+    /// Prints a number of this size, and a minus before it if it is negative.
+    fn constant(&mut self, is_negative: bool, size: u64) -> Result<(), NoMemory>
+        ensures { OnOk result (self.new ≡ with_marks self.old (constant_marks is_negative size)) }
     {
-        if number < 0 {
-            self.sign(Sign::Minus)?;
+        if !is_negative {
+            return self.number(size);
         }
-        self.number(number.unsigned_abs())
+        self.sign(Sign::Minus)?;
+        self.number(size)
     }
 
-    /// Prints what a term adds to its variable.
-    fn offset(&mut self, offset: i64) -> Result<(), NoMemory>
-        ensures { OnOk result (self.new ≡ with_marks self.old (offset_marks offset)) }
+    /// Prints what is added to a variable, which has this size.
+    fn offset(&mut self, is_negative: bool, size: u64) -> Result<(), NoMemory>
+        ensures { OnOk result (self.new ≡ with_marks self.old (offset_marks is_negative size)) }
     {
-        if offset == 0 {
+        if size == 0 {
             return Ok(());
         }
-        self.sign(if offset > 0 { Sign::Plus } else { Sign::Minus })?;
-        self.number(offset.unsigned_abs())
+        if is_negative {
+            self.sign(Sign::Minus)?;
+            return self.number(size);
+        }
+        self.sign(Sign::Plus)?;
+        self.number(size)
     }
 
     pub(crate) fn term(&mut self, term: &Term) -> Result<(), NoMemory>
         ensures { OnOk result (self.new ≡ with_marks self.old (int_spelling (term_tree term.now))) }
     {
+        let offset = term.offset();
+        let is_negative = offset < 0;
+        let size = offset.unsigned_abs();
         match term.base() {
-            None => self.constant(term.offset()),
+            None => self.constant(is_negative, size),
             Some(var) => {
                 self.var(var)?;
-                self.offset(term.offset())
+                self.offset(is_negative, size)
             }
         }
     }

@@ -29,7 +29,7 @@ pub(crate) struct Printer {
 
 impl Model for Printer {
     ghost use Rattle.cyp_lex.specs.declared.token.Word.{Word};
-ghost use Rattle.cyp_spec.specs.PrintMarks.{Printed};
+    ghost use Rattle.cyp_spec.specs.PrintMarks.{Printed};
 
     ghost Value = { Printed };
 

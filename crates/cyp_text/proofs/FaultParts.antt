@@ -8,7 +8,7 @@ use Rattle.cyp_lex.specs.declared.token.Token.{Token}
 use Rattle.cyp_text.specs.Grammar.{text_spelling}
 use Rattle.cyp_text.specs.GrammarFaults.{GrammarFault, IsKind}
 use Rattle.cyp_text.specs.Stopping.{StopsSo, TellsName}
-use Rattle.cyp_text.specs.declared.parse.Stopped.{Stopped}
+use Rattle.cyp_text.specs.declared.whole_text.Stopped.{Stopped}
 use Rattle.cyp_text.proofs.StopFaults.{begins_before, left_within, lexeme_fault, names_before}
 use Rattle.cyp_text.proofs.TokensParted.{no_token, parted_lexemes, rest_length, rest_lexemes}
 

@@ -18,7 +18,7 @@ use Rattle.cyp_term.specs.declared.fail.Fail.TheVariants.{Named}
 use Rattle.cyp_text.proofs.StopsAt.{any_name, begins, no_name, refused_at, unfinished_at}
 use Rattle.cyp_text.specs.Stopping.{GivesWhole, StopsSo, TellsName}
 use Rattle.cyp_text.specs.TextReaders.{text_at}
-use Rattle.cyp_text.specs.declared.parse.Stopped.{Stopped}
+use Rattle.cyp_text.specs.declared.whole_text.Stopped.{Stopped}
 use Rattle.cyp_text.specs.declared.tree.TextTree.{TextTree}
 use Rattle.cyp_text.proofs.Decided.{reading}
 use Rattle.cyp_text.proofs.Fronts.{begins_less}

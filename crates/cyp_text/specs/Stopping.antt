@@ -12,7 +12,7 @@ use Rattle.cyp_term.specs.declared.fail.Fail.TheVariants.{Named, NoMemory}
 use Rattle.cyp_text.specs.Grammar.{text_spelling}
 use Rattle.cyp_text.specs.GrammarFaults.{AllowsName, GrammarFault}
 use Rattle.cyp_text.specs.TextReaders.{text_at}
-use Rattle.cyp_text.specs.declared.parse.Stopped.{Stopped}
+use Rattle.cyp_text.specs.declared.whole_text.Stopped.{Stopped}
 use Rattle.cyp_text.specs.declared.tree.TextTree.{TextTree}
 
 -- the reader of all of the lexemes stops so
