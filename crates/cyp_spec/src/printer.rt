@@ -1,6 +1,7 @@
 ghost use Rattle.std.specs.Prelude.{[], List, OnOk, codes, decimal, not, ℕ, ◌++◌, ◌≡◌};
 ghost use Rattle.cyp_grammar.specs.Lexemes.{Name, Number, Reserved, Symbol};
 ghost use Rattle.cyp_lex.specs.declared.token.Word.{Word};
+ghost use Rattle.cyp_spec.specs.declared.printer.Edge.TheVariants.{AfterName, LineStart};
 ghost use Rattle.cyp_spec.specs.PrintMarks.{blank_if, edge_of, takes_blank, with_said};
 ghost use Rattle.cyp_text.specs.Printing.{is_closing};
 ghost use Rattle.cyp_text.specs.PrintedTrees.{sort_letter};

@@ -1,5 +1,6 @@
 ghost use Rattle.std.specs.Prelude.{IfOk, OnOk, ◌≡◌};
 ghost use Rattle.cyp_spec.specs.PrintMarks.{with_lines};
+ghost use Rattle.cyp_spec.specs.declared.printer.Edge.TheVariants.{LineStart};
 ghost use Rattle.cyp_text.specs.Printing.{pred_line, proc_line, specification_text};
 
 use crate::printed_lists::print_all;
