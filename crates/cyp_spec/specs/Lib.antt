@@ -1,1 +1,3 @@
 pub mod KeepsSpec
+pub mod PrintMarks
+pub mod PrintParts

@@ -88,43 +88,37 @@ fn chunks_and_clauses_are_read_in_their_order(rt: HostRuntime) -> Result<(), Fai
 }
 
 #[test]
-fn a_text_that_ends_too_early_is_refused_at_its_end(rt: HostRuntime) -> Result<(), Failed> {
+fn texts_are_refused_at_the_first_token_that_no_text_allows(rt: HostRuntime) -> Result<(), Failed> {
     for (text, kind, place) in [
         (b"".as_slice(), FaultKind::MissingProcedure, 0),
-        (b"void f(loc x) { x :-> a", FaultKind::Expected, 23),
+        (b"voi", FaultKind::Expected, 0),
+        (b"void", FaultKind::Expected, 4),
+        (b"void swap(l", FaultKind::Expected, 10),
+        (b"void swap(loc x, loc y) { x :", FaultKind::BadByte, 28),
+        (
+            b"void swap(loc x, loc y) { x :-> a",
+            FaultKind::Expected,
+            33,
+        ),
+        (
+            b"void swap(loc x, loc y) { x :-> a *",
+            FaultKind::BadByte,
+            34,
+        ),
+        (
+            b"void swap(loc x, loc y) { x :-> a ** y :-> b } { x :-> b ** y :-> a ",
+            FaultKind::Expected,
+            68,
+        ),
         (
             b"predicate p(loc x) { | x == 0 => { emp }",
             FaultKind::MissingProcedure,
             40,
         ),
-    ] {
-        assert_eq!(rt; fault_of(rt.alloc(), text)?, at(kind, place));
-    }
-    Ok(())
-}
-
-#[test]
-fn the_kinds_of_faults_are_told_apart(rt: HostRuntime) -> Result<(), Failed> {
-    for (text, kind, place) in [
         (
-            b"void f(loc x) { x + y == 1 ; emp } { emp }".as_slice(),
-            FaultKind::NotDifference,
-            20,
-        ),
-        (
-            b"void f() { 1 - 2 == 0 ; emp } { emp }",
-            FaultKind::NotDifference,
+            b"void f() { 12ab == 1 ; emp } { emp }",
+            FaultKind::Expected,
             13,
-        ),
-        (
-            b"void f(loc x) { [x, 2 - 1] } { emp }",
-            FaultKind::Expected,
-            22,
-        ),
-        (
-            b"void f() { {1} ++ s - 1 =i s ; emp } { emp }",
-            FaultKind::Expected,
-            20,
         ),
         (b"if", FaultKind::Expected, 0),
         (b"void void() { emp } { emp }", FaultKind::ReservedName, 5),
@@ -143,8 +137,58 @@ fn the_kinds_of_faults_are_told_apart(rt: HostRuntime) -> Result<(), Failed> {
             FaultKind::ReservedName,
             23,
         ),
+        (
+            b"void f(loc x) { x + y == 1 ; emp } { emp }",
+            FaultKind::NotDifference,
+            20,
+        ),
+        (
+            b"void f() { 1 - 2 == 0 ; emp } { emp }",
+            FaultKind::NotDifference,
+            13,
+        ),
+        (
+            b"void f() { 1 + 2 == 0 ; emp } { emp }",
+            FaultKind::NotDifference,
+            15,
+        ),
+        (
+            b"void f() { - 1 + x == 0 ; emp } { emp }",
+            FaultKind::NotDifference,
+            15,
+        ),
+        (
+            b"void f() { x + 1 + 2 == 0 ; emp } { emp }",
+            FaultKind::NotDifference,
+            17,
+        ),
+        (
+            b"void f(loc x) { [x, 2 - 1] } { emp }",
+            FaultKind::Expected,
+            22,
+        ),
+        (
+            b"void f() { {1} ++ s - 1 =i s ; emp } { emp }",
+            FaultKind::Expected,
+            20,
+        ),
+        (b"void f() { x <=i ; emp } { emp }", FaultKind::Expected, 17),
+        (b"void f() { s =i2 ; emp } { emp }", FaultKind::BadByte, 13),
     ] {
         assert_eq!(rt; fault_of(rt.alloc(), text)?, at(kind, place));
+    }
+    Ok(())
+}
+
+#[test]
+fn a_comparison_with_a_name_and_a_number_with_zeros_are_read(
+    rt: HostRuntime,
+) -> Result<(), Failed> {
+    for text in [
+        b"void f() { x <=in1 ; emp } { emp }".as_slice(),
+        b"void f() { x == 007 ; emp } { emp }",
+    ] {
+        assert_eq!(rt; fault_of(rt.alloc(), text)?, None);
     }
     Ok(())
 }
