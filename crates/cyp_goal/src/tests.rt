@@ -130,15 +130,41 @@ fn normal_of(alloc: Global, goal: Goal) -> Result<Renamed, Refused<TooLarge>>
     normal(alloc, Raw::new(preds, goal, none(alloc)))
 }
 
+/// The normal form where so many program variables are positive.
+fn of_many(alloc: Global, count: u8) -> Result<Renamed, Refused<TooLarge>> {
+    let program = ints(alloc, count)?;
+    let lits = all_positive(alloc, count)?;
+    normal_of(alloc, goal(alloc, program, lits))
+}
+
+/// The normal form with one program variable, whose number is 3, and these literals.
+fn of_lits(alloc: Global, lits: List<Lit>) -> Result<Renamed, Refused<TooLarge>> {
+    let program = one(alloc, int(3))?;
+    normal_of(alloc, goal(alloc, program, lits))
+}
+
+/// The normal form with the same program variable and these heaps.
+fn of_heaps(alloc: Global, pre: Heap, post: Heap) -> Result<Renamed, Refused<TooLarge>>
+    requires pre { insts pre.chunks ≡ [] }
+    requires post { insts post.chunks ≡ [] }
+{
+    let program = one(alloc, int(3))?;
+    let mut goal = goal(alloc, program, none(alloc));
+    goal.pre = pre;
+    goal.post = post;
+    normal_of(alloc, goal)
+}
+
+fn has_lits(renamed: &Renamed, lits: &List<Lit>) -> bool {
+    renamed.node.goal().pure_pre == *lits
+}
+
 #[test]
 fn refuses_a_thirteenth_program_variable(rt: HostRuntime) -> Result<(), Fail> {
     let alloc = rt.alloc();
-    let many = goal(alloc, ints(alloc, 13)?, all_positive(alloc, 13)?);
-    assert_eq!(rt; normal_of(alloc, many), Err(Refused::Named(TooLarge)));
-    let most = goal(alloc, ints(alloc, 12)?, all_positive(alloc, 12)?);
-    let normal = normal_of(alloc, most)?;
-    assert_eq!(rt; normal.old, ints(alloc, 12)?);
-    assert_eq!(rt; normal.node.goal().pure_pre, all_positive(alloc, 12)?);
+    assert!(rt; matches!(of_many(alloc, 13), Err(Refused::Named(TooLarge))));
+    let normal = of_many(alloc, 12)?;
+    assert!(rt; has_lits(&normal, &all_positive(alloc, 12)?));
     Ok(())
 }
 
@@ -151,87 +177,88 @@ fn drops_a_dead_literal_and_a_repeated_one(rt: HostRuntime) -> Result<(), Fail> 
         positive(bare(3)),
         positive(bare(3)),
     )?;
-    let normal = normal_of(alloc, goal(alloc, one(alloc, int(3))?, lits))?;
-    assert_eq!(rt; normal.node.goal().pure_pre, all_positive(alloc, 1)?);
-    assert_eq!(rt; normal.node.goal().program, ints(alloc, 1)?);
-    assert_eq!(rt; normal.old, one(alloc, int(3))?);
+    let normal = of_lits(alloc, lits)?;
+    assert!(rt; has_lits(&normal, &all_positive(alloc, 1)?));
+    assert!(rt; normal.old == one(alloc, int(3))?);
     Ok(())
 }
 
 #[test]
 fn solves_an_equation_for_its_left_side_first(rt: HostRuntime) -> Result<(), Fail> {
     let alloc = rt.alloc();
+    let equation = Lit::Eq(bare(5), plus(6, 1));
     let lits = three(
         alloc,
-        Lit::Eq(bare(5), plus(6, 1)),
+        equation,
         Lit::Lt(bare(5), bare(3)),
         Lit::Lt(bare(6), bare(3)),
     )?;
-    let normal = normal_of(alloc, goal(alloc, one(alloc, int(3))?, lits))?;
+    let normal = of_lits(alloc, lits)?;
     let expected = two(
         alloc,
         Lit::Lt(plus(1, 1), bare(0)),
         Lit::Lt(bare(1), bare(0)),
     )?;
-    assert_eq!(rt; normal.node.goal().pure_pre, expected);
+    assert!(rt; has_lits(&normal, &expected));
     Ok(())
+}
+
+fn with_existential(alloc: Global) -> Result<Renamed, Refused<TooLarge>> {
+    let program = one(alloc, int(3))?;
+    let mut goal = goal(alloc, program, none(alloc));
+    goal.exist = one(alloc, int(9))?;
+    let equation = Lit::Eq(bare(3), plus(9, 2));
+    goal.pure_post = two(alloc, equation, Lit::Lt(bare(9), bare(7)))?;
+    normal_of(alloc, goal)
 }
 
 #[test]
 fn solves_an_equation_of_the_post_for_an_existential(rt: HostRuntime) -> Result<(), Fail> {
     let alloc = rt.alloc();
-    let mut goal = goal(alloc, one(alloc, int(3))?, none(alloc));
-    goal.exist = one(alloc, int(9))?;
-    goal.pure_post = two(
-        alloc,
-        Lit::Eq(bare(3), plus(9, 2)),
-        Lit::Lt(bare(9), bare(7)),
-    )?;
-    let normal = normal_of(alloc, goal)?;
+    let normal = with_existential(alloc)?;
     let expected = one(alloc, Lit::Lt(plus(0, -2), bare(1)))?;
-    assert_eq!(rt; normal.node.goal().pure_post, expected);
-    assert_eq!(rt; normal.node.goal().exist.len(), 0);
+    assert!(rt; normal.node.goal().pure_post == expected);
+    assert!(rt; normal.node.goal().exist.len() == 0);
     Ok(())
 }
 
 #[test]
 fn refuses_an_offset_past_the_range(rt: HostRuntime) -> Result<(), Fail> {
     let alloc = rt.alloc();
-    let past = two(
-        alloc,
-        Lit::Eq(bare(5), plus(3, WIDEST)),
-        positive(plus(5, 1)),
-    )?;
-    let wide = goal(alloc, one(alloc, int(3))?, past);
-    assert_eq!(rt; normal_of(alloc, wide), Err(Refused::Named(TooLarge)));
-    let within = two(alloc, Lit::Eq(bare(5), plus(3, WIDEST)), positive(bare(5)))?;
-    let normal = normal_of(alloc, goal(alloc, one(alloc, int(3))?, within))?;
+    let equation = Lit::Eq(bare(5), plus(3, WIDEST));
+    let lits = two(alloc, equation, positive(plus(5, 1)))?;
+    assert!(rt; matches!(of_lits(alloc, lits), Err(Refused::Named(TooLarge))));
+    Ok(())
+}
+
+#[test]
+fn allows_the_widest_offset(rt: HostRuntime) -> Result<(), Fail> {
+    let alloc = rt.alloc();
+    let equation = Lit::Eq(bare(5), plus(3, WIDEST));
+    let lits = two(alloc, equation, positive(bare(5)))?;
+    let normal = of_lits(alloc, lits)?;
     let expected = one(alloc, positive(plus(0, WIDEST)))?;
-    assert_eq!(rt; normal.node.goal().pure_pre, expected);
+    assert!(rt; has_lits(&normal, &expected));
     Ok(())
 }
 
 #[test]
 fn says_that_the_least_address_of_a_base_is_positive(rt: HostRuntime) -> Result<(), Fail> {
     let alloc = rt.alloc();
-    let mut goal = goal(alloc, one(alloc, int(3))?, none(alloc));
-    goal.pre = cells(alloc, (plus(3, 1), plain(0)), (bare(3), plain(0)))?;
-    let normal = normal_of(alloc, goal)?;
-    assert_eq!(rt; normal.node.goal().pure_pre, all_positive(alloc, 1)?);
+    let pre = cells(alloc, (plus(3, 1), plain(0)), (bare(3), plain(0)))?;
+    let normal = of_heaps(alloc, pre, Heap::new(none(alloc)))?;
+    assert!(rt; has_lits(&normal, &all_positive(alloc, 1)?));
     Ok(())
 }
 
 #[test]
 fn numbers_the_pre_before_the_post(rt: HostRuntime) -> Result<(), Fail> {
     let alloc = rt.alloc();
-    let mut goal = goal(alloc, one(alloc, int(3))?, none(alloc));
-    goal.pre = cells(alloc, (bare(3), bare(8)), (plus(3, 1), bare(7)))?;
-    goal.post = cells(alloc, (bare(3), bare(7)), (plus(3, 1), bare(8)))?;
-    let normal = normal_of(alloc, goal)?;
-    let pre = cells(alloc, (bare(0), bare(1)), (plus(0, 1), bare(2)))?;
-    let post = cells(alloc, (bare(0), bare(2)), (plus(0, 1), bare(1)))?;
-    assert_eq!(rt; normal.node.goal().pre, pre);
-    assert_eq!(rt; normal.node.goal().post, post);
+    let pre = cells(alloc, (bare(3), bare(8)), (plus(3, 1), bare(7)))?;
+    let post = cells(alloc, (bare(3), bare(7)), (plus(3, 1), bare(8)))?;
+    let normal = of_heaps(alloc, pre, post)?;
+    let expected = cells(alloc, (bare(0), bare(2)), (plus(0, 1), bare(1)))?;
+    assert!(rt; normal.node.goal().post == expected);
     Ok(())
 }
 
@@ -259,31 +286,54 @@ fn companion(alloc: Global, own: Term, tuple: Term) -> Result<List<Link>, NoMemo
     one(alloc, link)
 }
 
+fn below_a_companion(alloc: Global, lits: List<Lit>) -> Result<Renamed, Refused<TooLarge>> {
+    let preds = Shared::new(alloc, Preds::new(none(alloc)))?;
+    let goal = goal(alloc, none(alloc), lits);
+    let links = companion(alloc, bare(5), bare(5))?;
+    normal(alloc, Raw::new(preds, goal, links))
+}
+
 #[test]
 fn keeps_what_a_measure_speaks_of(rt: HostRuntime) -> Result<(), Fail> {
     let alloc = rt.alloc();
     let lits = two(alloc, positive(bare(6)), positive(bare(5)))?;
-    let preds = Shared::new(alloc, Preds::new(none(alloc)))?;
-    let goal = goal(alloc, none(alloc), lits);
-    let links = companion(alloc, bare(5), bare(5))?;
-    let normal = normal(alloc, Raw::new(preds, goal, links))?;
-    assert_eq!(rt; normal.node.goal().pure_pre, all_positive(alloc, 1)?);
-    let expected = companion(alloc, bare(5), bare(0))?;
-    assert!(rt; *normal.node.links() == expected);
+    let normal = below_a_companion(alloc, lits)?;
+    assert!(rt; has_lits(&normal, &all_positive(alloc, 1)?));
+    assert!(rt; *normal.node.links() == companion(alloc, bare(5), bare(0))?);
     Ok(())
 }
 
+/// The facts where one variable is positive and these are the chunks of the pre.
+fn facts_of(alloc: Global, pre: Heap) -> Result<List<Lit>, NoMemory> {
+    let lits = all_positive(alloc, 1)?;
+    let mut goal = goal(alloc, none(alloc), lits);
+    goal.pre = pre;
+    facts(alloc, &goal)
+}
+
 #[test]
-fn knows_that_cells_and_blocks_lie_apart(rt: HostRuntime) -> Result<(), Fail> {
+fn knows_that_cells_lie_apart(rt: HostRuntime) -> Result<(), Fail> {
     let alloc = rt.alloc();
-    let mut goal = goal(alloc, none(alloc), all_positive(alloc, 1)?);
-    goal.pre = cells(alloc, (bare(0), plain(5)), (bare(1), plain(5)))?;
+    let pre = cells(alloc, (bare(0), plain(5)), (bare(1), plain(5)))?;
     let expected = two(alloc, positive(bare(0)), Lit::Ne(bare(0), bare(1)))?;
-    assert_eq!(rt; facts(alloc, &goal)?, expected);
-    let block = Chunk::Block(BlockAt::new(bare(2), 2));
-    let other = Chunk::Block(BlockAt::new(bare(3), 1));
-    goal.pre = Heap::new(two(alloc, block, other)?);
+    assert!(rt; facts_of(alloc, pre)? == expected);
+    Ok(())
+}
+
+fn blocks(alloc: Global, first: Term, second: Term) -> Result<Heap, NoMemory> {
+    let chunks = two(
+        alloc,
+        Chunk::Block(BlockAt::new(first, 2)),
+        Chunk::Block(BlockAt::new(second, 1)),
+    )?;
+    Ok(Heap::new(chunks))
+}
+
+#[test]
+fn knows_that_blocks_lie_apart(rt: HostRuntime) -> Result<(), Fail> {
+    let alloc = rt.alloc();
+    let pre = blocks(alloc, bare(2), bare(3))?;
     let expected = two(alloc, positive(bare(0)), Lit::Ne(bare(2), bare(3)))?;
-    assert_eq!(rt; facts(alloc, &goal)?, expected);
+    assert!(rt; facts_of(alloc, pre)? == expected);
     Ok(())
 }

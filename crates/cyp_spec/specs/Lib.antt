@@ -1,3 +1,0 @@
-pub mod KeepsSpec
-pub mod PrintMarks
-pub mod PrintParts
