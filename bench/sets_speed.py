@@ -26,7 +26,7 @@ LIBRARIES = {
 }
 KINDS = ["<=", "<", "==", "!=", "=i", "not =i", "in", "not in", "<=i", "not <=i"]
 CVC5 = shutil.which("cvc5")
-REPEATS = 100
+REPEATS = 40
 
 
 def build(folder):
