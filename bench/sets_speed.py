@@ -26,7 +26,7 @@ LIBRARIES = {
 }
 KINDS = ["<=", "<", "==", "!=", "=i", "not =i", "in", "not in", "<=i", "not <=i"]
 CVC5 = shutil.which("cvc5")
-REPEATS = 100
+REPEATS = 40
 
 
 def build(folder):
@@ -36,9 +36,10 @@ def build(folder):
         shutil.copytree(os.path.join(CRATES, name), os.path.join(crates, name))
     program = os.path.join(crates, "sets_speed")
     os.makedirs(os.path.join(program, "src"))
-    os.makedirs(os.path.join(program, "proofs"))
+    os.makedirs(os.path.join(program, "proofs", "set_vars"))
     shutil.copy(os.path.join(HERE, "sets_speed_main.txt"), os.path.join(program, "src", "main.rt"))
     shutil.copy(os.path.join(HERE, "sets_speed_lemma.txt"), os.path.join(program, "proofs", "Unions.antt"))
+    shutil.copy(os.path.join(HERE, "sets_speed_invariant.txt"), os.path.join(program, "proofs", "set_vars", "Invariants.antt"))
     with open(os.path.join(program, "proofs", "Lib.antt"), "w", encoding="utf-8") as lines:
         lines.write("pub mod Unions\n")
     with open(os.path.join(folder, "crates.txt"), "w", encoding="utf-8") as lines:
