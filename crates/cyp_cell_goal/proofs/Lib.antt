@@ -1,8 +1,6 @@
-pub mod Growing
-pub mod SameNames
-pub mod Places
-pub mod Text
-pub mod Formed
-pub mod Within
+pub mod FlatForms
+pub mod Dressing
+pub mod RawGoals
 pub mod Roots
+pub mod SmallNumbers
 mod Rows

@@ -1,9 +1,8 @@
--- The root of a text by the small value of its goal.
-use Rattle.std.proofs.Common.{◌≡◌, ◌∙◌, ◌&&◌, Bool, true, false, Option, None, Some, cond, is_some, option_map, refl, sym, ap}
-use Rattle.std.proofs.lemmas.Bool.{and_parts}
-use Rattle.std.proofs.lemmas.Option.{cond_some, none-some}
-use Rattle.cyp_cell_text.specs.declared.text.FlatText.{FlatText}
-use Rattle.cyp_cells.specs.CellMoves.{IsCells}
+-- The root of a flat specification by the small value of its goal.
+use Rattle.std.proofs.Common.{Bool, IsTrue, None, Option, Some, ap, cond, false, is_some, option_map, refl, sym, true, ◌∙◌, ◌≡◌}
+use Rattle.std.specs.List.{list_all}
+use Rattle.std.proofs.lemmas.Bool.{and_parts, false≢true}
+use Rattle.cyp_cells.specs.CellMoves.{IsCells, is_small_cell}
 use Rattle.cyp_cells.specs.CellNormal.{normal_flat}
 use Rattle.cyp_cells.specs.Cells.{node_of}
 use Rattle.cyp_cells.specs.declared.flat.Flat.{Flat}
@@ -13,69 +12,77 @@ use Rattle.cyp_cell_moves.proofs.Kept.{normal_kept}
 use Rattle.cyp_cell_moves.proofs.LeftByRules.{plain_from_raw}
 use Rattle.cyp_cell_moves.proofs.NormalCells.{normal_of_flat}
 use Rattle.cyp_cell_moves.proofs.NormalKeeps.{normal_is}
+use Rattle.cyp_cell_moves.proofs.WellFormed.{IsRaw}
 use Rattle.cyp_goal.specs.Normal.{Renaming, normal}
 use Rattle.cyp_heap.specs.Limits.{is_goal_within}
+use Rattle.cyp_heap.specs.declared.goal.Goal.{Goal}
 use Rattle.cyp_heap.specs.declared.goal.Node.{Node}
-use Rattle.cyp_cell_goal.specs.FlatGoal.{flat_goal, flat_node, is_small_text, node_or, root_within}
-use Rattle.cyp_cell_goal.specs.FlatOf.{flat_of, is_written_within}
-use Rattle.cyp_cell_goal.proofs.Formed.{raw-flat_of}
-use Rattle.cyp_cell_goal.proofs.Text.{node_of-flat_of}
-use Rattle.cyp_cell_goal.proofs.Within.{is_written_within-parts}
+use Rattle.cyp_spec.specs.KeepsSpec.{KeepsSpec}
+use Rattle.cyp_text.specs.LimitFaults.{root_of as text_root}
+use Rattle.cyp_text.specs.Specifications.{Specification}
+use Rattle.cyp_cell_goal.specs.FlatGoals.{cells_node, flat_root, is_flat, node_or, root_of}
+use Rattle.cyp_cell_goal.specs.FlatOf.{flat_goal}
+use Rattle.cyp_cell_goal.proofs.Dressing.{normal_there}
+use Rattle.cyp_cell_goal.proofs.FlatForms.{flat_parts, node_again}
+use Rattle.cyp_cell_goal.proofs.RawGoals.{raw_again}
 
-pub normal-flat_node : (t : FlatText) → is_small_text t ≡ true → normal (flat_node t) ≡ option_map renaming_of (normal_flat (flat_of t))
-normal-flat_node t h = ap normal (sym (node_of-flat_of t)) ∙ normal_of_flat (flat_of t) (plain_from_raw (flat_of t) (raw-flat_of t h))
+-- ---- where the specification isn't flat
 
--- the root by the test of what is written and the normal form
-abbrev root_by : Node → Bool → Option Renaming → Option Node
-root_by n b r = cond (b && is_some r) (Some (node_or n r)) None
+root_where : (b : Bool) (n : Node) → b ≡ false → cond b (Some n) None ≡ None
+root_where true n h = absurd (false≢true (sym h))
+root_where false n h = refl
 
-root_by_flat : (n : Node) (o : Option FlatRenaming) → root_by n true (option_map renaming_of o) ≡ option_map (λ (m : FlatRenaming). node_of m.flat) o
-root_by_flat n None = refl
-root_by_flat n (Some m) = refl
+pub not_flat : (s : Specification) → is_flat s ≡ false → None ≡ flat_root s
+not_flat s h = sym (root_where (is_flat s) (root_of s) h)
 
--- where a limit of what is written is passed there is no root
-pub root_none : (t : FlatText) → is_written_within t ≡ false → root_within t ≡ None
-root_none t h = ap (λ b. root_by (flat_node t) b (normal (flat_node t))) (sym (is_written_within-parts t) ∙ h)
+-- ---- where it is
 
--- elsewhere it is the normal form
-pub root_some : (t : FlatText) (o : Option FlatRenaming) → is_written_within t ≡ true → normal_flat (flat_of t) ≡ o → root_within t ≡ option_map (λ (m : FlatRenaming). node_of m.flat) o
-root_some t o h e =
-    let both : (is_small_text t && is_goal_within (flat_goal t)) ≡ true = sym (is_written_within-parts t) ∙ h in
-    let small : is_small_text t ≡ true = (and_parts (is_small_text t) (is_goal_within (flat_goal t)) both).0 in
-    let n : normal (flat_node t) ≡ option_map renaming_of o = normal-flat_node t small ∙ ap (option_map renaming_of) e in
-    (λ i. root_by (flat_node t) (both i) (n i)) ∙ root_by_flat (flat_node t) o
+-- a flat specification, and the small value that is made of its goal
+pub record Made (s : Specification) (f : Flat) : Type 0 where
+  pub flat : is_flat s ≡ true
+  pub keeps : KeepsSpec s
+  pub same : f ≡ flat_goal s.goal
+  pub small_pre : IsTrue (list_all is_small_cell f.pre)
+  pub small_post : IsTrue (list_all is_small_cell f.post)
 
--- a text's goal in normal form is a goal of cells alone
-pub root_kept : (t : FlatText) (m : FlatRenaming) → is_written_within t ≡ true → normal_flat (flat_of t) ≡ Some m → IsCells m.flat
-root_kept t m h e =
-    let both : (is_small_text t && is_goal_within (flat_goal t)) ≡ true = sym (is_written_within-parts t) ∙ h in
-    let small : is_small_text t ≡ true = (and_parts (is_small_text t) (is_goal_within (flat_goal t)) both).0 in
-    normal_kept (flat_of t) m (raw-flat_of t small) e (ap (λ (f : Flat). f.equations) (sym (normal_is (flat_of t) m e).1))
+-- the value that is made of its goal
+pub made_of : (s : Specification) (g : Goal) (f : Flat) → IsTrue (is_flat s) → g ≡ s.goal → KeepsSpec s → f ≡ flat_goal g
+    → IsTrue (list_all is_small_cell f.pre) → IsTrue (list_all is_small_cell f.post) → Made s f
+made_of s g f h e k same pre post = record { flat = h; keeps = k; same = same ∙ ap flat_goal e; small_pre = pre; small_post = post }
 
--- ---- the steps of the code
+module _ (s : Specification) (f : Flat) (m : Made s f) where
+  raw : IsRaw (flat_goal s.goal)
+  raw =
+      raw_again s (flat_parts s.goal m.flat) m.keeps.formed (ap (λ (g : Flat). list_all is_small_cell g.pre) (sym m.same) ∙ m.small_pre)
+      (ap (λ (g : Flat). list_all is_small_cell g.post) (sym m.same) ∙ m.small_post)
 
--- the goal of the text, where no limit of what is written is passed
-abbrev pub written : FlatText → Option Flat
-written t = cond (is_written_within t) (Some (flat_of t)) None
+  normal_again : normal (cells_node s) ≡ option_map renaming_of (normal_flat f)
+  normal_again =
+      ap normal (sym (node_again s (flat_parts s.goal m.flat) m.keeps.formed))
+      ∙ normal_of_flat (flat_goal s.goal) (plain_from_raw (flat_goal s.goal) raw)
+      ∙ ap (λ (g : Flat). option_map renaming_of (normal_flat g)) (sym m.same)
 
-not_written : (b : Bool) (f : Flat) → cond b (Some f) None ≡ None → b ≡ false
-not_written true f e = absurd (none-some f (sym e))
-not_written false f e = refl
+  there : is_some (option_map renaming_of (normal_flat f)) ≡ true
+  there =
+      ap is_some (sym normal_again)
+      ∙ normal_there s (and_parts (is_goal_within s.goal) (is_some (normal (text_root s))) m.keeps.within).1
 
-pub root_unwritten : (t : FlatText) (o : Option Flat) → o ≡ written t → o ≡ None → None ≡ root_within t
-root_unwritten t o e n = sym (root_none t (not_written (is_written_within t) (flat_of t) (sym e ∙ n)))
+  -- a flat specification has a root
+  pub no_root : None ≡ normal_flat f → ⊥
+  no_root e = false≢true (ap (λ (o : Option FlatRenaming). is_some (option_map renaming_of o)) e ∙ there)
 
-is_written : (t : FlatText) (o : Option Flat) (g : Flat) → o ≡ written t → o ≡ Some g → (is_written_within t ≡ true) × (flat_of t ≡ g)
-is_written t o g e s = cond_some (is_written_within t) (flat_of t) g (sym e ∙ s)
+  root_by : (o : Option FlatRenaming) (r : FlatRenaming) → o ≡ Some r → node_or (cells_node s) (option_map renaming_of o) ≡ node_of r.flat
+  root_by o r e = ap (λ (p : Option FlatRenaming). node_or (cells_node s) (option_map renaming_of p)) e
 
-pub root_written : (t : FlatText) (o : Option Flat) (g : Flat) (n k : Option FlatRenaming) → o ≡ written t → o ≡ Some g → n ≡ normal_flat g → n ≡ k
-    → option_map (λ (m : FlatRenaming). node_of m.flat) k ≡ root_within t
-root_written t o g n k e s f h =
-    let is : (is_written_within t ≡ true) × (flat_of t ≡ g) = is_written t o g e s in
-    sym (root_some t k is.0 (ap normal_flat is.1 ∙ sym f ∙ h))
+  -- which is the normal form of its goal
+  pub is_root : (r : FlatRenaming) → Some r ≡ normal_flat f → Some (node_of r.flat) ≡ flat_root s
+  is_root r e =
+      sym (ap (λ b. cond b (Some (root_of s)) None) m.flat
+      ∙ ap (λ (o : Option Renaming). Some (node_or (cells_node s) o)) normal_again
+      ∙ ap Some (root_by (normal_flat f) r (sym e)))
 
-pub root_cells : (t : FlatText) (o : Option Flat) (g : Flat) (n : Option FlatRenaming) (m : FlatRenaming) → o ≡ written t → o ≡ Some g → n ≡ normal_flat g → n ≡ Some m
-    → IsCells m.flat
-root_cells t o g n m e s f h =
-    let is : (is_written_within t ≡ true) × (flat_of t ≡ g) = is_written t o g e s in
-    root_kept t m is.0 (ap normal_flat is.1 ∙ sym f ∙ h)
+  -- a goal of cells alone
+  pub is_cells : (r : FlatRenaming) → Some r ≡ normal_flat f → IsCells r.flat
+  is_cells r e =
+      let made : normal_flat (flat_goal s.goal) ≡ Some r = ap normal_flat (sym m.same) ∙ sym e in
+      normal_kept (flat_goal s.goal) r raw made (ap (λ (g : Flat). g.equations) (sym (normal_is (flat_goal s.goal) r made).1))

@@ -1,94 +1,91 @@
--- Worked rows: roots of texts.
-use Rattle.std.proofs.Common.{◌≡◌, ℕ, List, [], ◌∷◌, Some, None, map, refl}
+-- Worked rows: which specifications are flat, and their roots.
+use Rattle.std.proofs.Common.{None, Option, Some, [], List, map, negsuc, pos, refl, true, false, ℕ, ℤ, ◌∷◌, ◌≡◌}
 use Rattle.std.specs.Prelude.{codes}
-use Rattle.cyp_cell_text.specs.declared.text.CellText.{CellText}
-use Rattle.cyp_cell_text.specs.declared.text.ContentText.TheVariants as contents
-use Rattle.cyp_cell_text.specs.declared.text.FlatText.{FlatText}
-use Rattle.cyp_cell_text.specs.declared.text.ParamText.{ParamText}
-use Rattle.cyp_cell_text.specs.declared.text.ParamWord.TheVariants.{Int, Loc}
-use Rattle.cyp_cells.specs.Cells.{node_of}
+use Rattle.cyp_cells.specs.Cells.{int_var, node_of}
 use Rattle.cyp_cells.specs.declared.flat.FlatCell.{FlatCell}
+use Rattle.cyp_cells.specs.declared.flat.FlatTerm.{FlatTerm}
 use Rattle.cyp_cells.specs.declared.flat.FlatTerm.TheVariants.{Named, Number}
-use Rattle.cyp_cell_goal.specs.FlatGoal.{root_within}
+use Rattle.cyp_heap.specs.declared.chunk.Chunk.{Chunk}
+use Rattle.cyp_heap.specs.declared.chunk.Chunk.TheVariants.{Block, Cell}
+use Rattle.cyp_term.specs.Terms.{number_term, plus, var_term}
+use Rattle.cyp_term.specs.declared.lit.Lit.{Lit}
+use Rattle.cyp_term.specs.declared.lit.Lit.TheVariants.{Eq}
+use Rattle.cyp_term.specs.declared.term.Term.{Term}
+use Rattle.cyp_text.specs.Specifications.{Specification}
+use Rattle.cyp_cell_goal.specs.FlatGoals.{flat_root, is_flat}
 
-abbrev holds : List ℕ → List ℕ → CellText
-holds address name = record { address = address; content = contents.Name name }
+abbrev x : ℕ → Term
+x n = var_term (int_var n)
 
-abbrev holds_number : List ℕ → ℕ → CellText
-holds_number address n = record { address = address; content = contents.Number n }
+abbrev holds : Term → Term → Chunk
+holds a b = Cell (record { at = a; content = b })
 
-abbrev flat : ℕ → ℕ → FlatCell
-flat v w = record { at = Named v; content = Named w }
-
-abbrev loc : List ℕ → ParamText
-loc name = record { word = Loc; name = name }
-
--- void swap(loc x, loc y) { x :-> a ** y :-> b } { x :-> b ** y :-> a }
-abbrev swap : FlatText
-swap = record {
-  name = codes "swap";
-  params = loc (codes "x") ∷ loc (codes "y") ∷ [];
-  pre = holds (codes "x") (codes "a") ∷ holds (codes "y") (codes "b") ∷ [];
-  post = holds (codes "x") (codes "b") ∷ holds (codes "y") (codes "a") ∷ [];
+-- program variables and existentials, the literals assumed, and the chunks of both sides
+abbrev spec : List ℕ → List ℕ → List Lit → List Chunk → List Chunk → Specification
+spec program exist lits pre post = record {
+  preds = record { list = [] };
+  name = codes "f";
+  goal = record {
+    program = map int_var program;
+    exist = map int_var exist;
+    pure_pre = lits;
+    pre = record { chunks = pre };
+    pure_post = [];
+    post = record { chunks = post };
+  };
 }
 
-row_swap : root_within swap ≡ Some (node_of (record {
+abbrev flat : ℕ → FlatTerm → FlatCell
+flat v t = record { at = Named v; content = t }
+
+-- void f(loc x, loc y) { x :-> a ** y :-> b } { x :-> b ** y :-> a }
+row_swap : flat_root (spec (0 ∷ 1 ∷ []) [] [] (holds (x 0) (x 2) ∷ holds (x 1) (x 3) ∷ []) (holds (x 0) (x 3) ∷ holds (x 1) (x 2) ∷ [])) ≡ Some (node_of (record {
   program = 0 ∷ 1 ∷ [];
   exist = [];
   positive = 0 ∷ 1 ∷ [];
-  pre = flat 0 2 ∷ flat 1 3 ∷ [];
+  pre = flat 0 (Named 2) ∷ flat 1 (Named 3) ∷ [];
   equations = [];
-  post = flat 0 3 ∷ flat 1 2 ∷ [];
+  post = flat 0 (Named 3) ∷ flat 1 (Named 2) ∷ [];
 }))
 row_swap = refl
 
--- void pick(loc y, loc x) { x :-> a } { x :-> z }: y goes, and z is an existential
-row_existential : root_within (record {
-  name = codes "pick";
-  params = loc (codes "y") ∷ loc (codes "x") ∷ [];
-  pre = holds (codes "x") (codes "a") ∷ [];
-  post = holds (codes "x") (codes "z") ∷ [];
-})
-    ≡ Some (node_of (record {
-      program = 0 ∷ [];
-      exist = 2 ∷ [];
-      positive = 0 ∷ [];
-      pre = flat 0 1 ∷ [];
-      equations = [];
-      post = flat 0 2 ∷ [];
-    }))
+-- void f(loc y, loc x) { x :-> a } { x :-> z }: y goes, and z is an existential
+row_existential : flat_root (spec (0 ∷ 1 ∷ []) (3 ∷ []) [] (holds (x 1) (x 2) ∷ []) (holds (x 1) (x 3) ∷ [])) ≡ Some (node_of (record {
+  program = 0 ∷ [];
+  exist = 2 ∷ [];
+  positive = 0 ∷ [];
+  pre = flat 0 (Named 1) ∷ [];
+  equations = [];
+  post = flat 0 (Named 2) ∷ [];
+}))
 row_existential = refl
 
--- void f(loc x) { x :-> x } { x :-> 2147483648 }
-row_number : root_within (record {
-  name = codes "f";
-  params = loc (codes "x") ∷ [];
-  pre = holds (codes "x") (codes "x") ∷ [];
-  post = holds_number (codes "x") 2147483648 ∷ [];
-})
-    ≡ Some (node_of (record {
-      program = 0 ∷ [];
-      exist = [];
-      positive = 0 ∷ [];
-      pre = flat 0 0 ∷ [];
-      equations = [];
-      post = record { at = Named 0; content = Number 2147483648 } ∷ [];
-    }))
-row_number = refl
+-- void f(loc x) { x :-> x } { x :-> - 5 }
+row_negative : flat_root (spec (0 ∷ []) [] [] (holds (x 0) (x 0) ∷ []) (holds (x 0) (number_term (negsuc 4)) ∷ [])) ≡ Some (node_of (record {
+  program = 0 ∷ [];
+  exist = [];
+  positive = 0 ∷ [];
+  pre = flat 0 (Named 0) ∷ [];
+  equations = [];
+  post = flat 0 (Number (negsuc 4)) ∷ [];
+}))
+row_negative = refl
 
--- void f(loc x) { emp } { x :-> 2147483649 }
-row_large_number : root_within (record { name = codes "f"; params = loc (codes "x") ∷ []; pre = []; post = holds_number (codes "x") 2147483649 ∷ [] }) ≡ None
-row_large_number = refl
+-- a number at an address, an offset there, an offset of a content, a block, a literal
+row_numbered : is_flat (spec [] [] [] (holds (number_term (pos 5)) (x 0) ∷ []) []) ≡ false
+row_numbered = refl
 
--- thirteen parameters
-row_parameters : root_within (record { name = codes "f"; params = map (λ k. record { word = Int; name = k ∷ [] }) (codes "abcdefghijklm"); pre = []; post = [] }) ≡ None
-row_parameters = refl
+row_address : is_flat (spec (0 ∷ []) [] [] [] (holds (plus (x 0) (pos 1)) (x 0) ∷ [])) ≡ false
+row_address = refl
 
--- thirty-two variables, and one more, which the normal form has no room for
-row_variables : root_within (record {
-  name = codes "f";
-  params = [];
-  pre = map (λ k. holds (97 ∷ k ∷ []) (98 ∷ k ∷ [])) (codes "abcdefghijklmnop");
-  post = holds (codes "c") (codes "c") ∷ [];
-}) ≡ None
-row_variables = refl
+row_content : is_flat (spec (0 ∷ []) [] [] (holds (x 0) (plus (x 1) (pos 1)) ∷ []) []) ≡ false
+row_content = refl
+
+row_block : is_flat (spec (0 ∷ []) [] [] (Block (record { at = x 0; size = 1 }) ∷ holds (x 0) (x 1) ∷ []) []) ≡ false
+row_block = refl
+
+row_literal : is_flat (spec (0 ∷ []) [] (Eq (x 0) (number_term (pos 0)) ∷ []) [] []) ≡ false
+row_literal = refl
+
+row_empty : is_flat (spec [] [] [] [] []) ≡ true
+row_empty = refl

@@ -1,51 +1,49 @@
--- The goal of a flat text as a small value, and the limits that are tested while it is made.
-use Rattle.std.specs.Prelude.{◌&&◌, [], Bool, List, drop, length, map, nat_le, ℕ}
-use Rattle.std.specs.List.{list_all}
-use Rattle.cyp_cell_text.specs.declared.text.CellText.{CellText}
-use Rattle.cyp_cell_text.specs.declared.text.ContentText.{ContentText}
-use Rattle.cyp_cell_text.specs.declared.text.ContentText.TheVariants as contents
-use Rattle.cyp_cell_text.specs.declared.text.FlatText.{FlatText}
-use Rattle.cyp_cell_text.specs.declared.text.ParamText.{ParamText}
+-- A flat goal as a small value.
+use Rattle.std.specs.Prelude.{List, None, Option, Some, [], flat_map, map, ℕ, ℤ, ◌∷◌}
 use Rattle.cyp_cells.specs.declared.flat.Flat.{Flat}
 use Rattle.cyp_cells.specs.declared.flat.FlatCell.{FlatCell}
 use Rattle.cyp_cells.specs.declared.flat.FlatTerm.{FlatTerm}
 use Rattle.cyp_cells.specs.declared.flat.FlatTerm.TheVariants.{Named, Number}
-use Rattle.cyp_cell_goal.specs.FlatGoal.{all_names, is_small_content, is_small_text, name_place, param_names, universal_names}
+use Rattle.cyp_heap.specs.declared.chunk.CellAt.{CellAt}
+use Rattle.cyp_heap.specs.declared.chunk.Chunk.{Chunk}
+use Rattle.cyp_heap.specs.declared.chunk.Chunk.TheVariants.{Cell}
+use Rattle.cyp_heap.specs.declared.goal.Goal.{Goal}
+use Rattle.cyp_term.specs.declared.term.Term.{Term}
+use Rattle.cyp_term.specs.declared.term.Var.{Var}
 
--- the names of these parameters, in their order
-abbrev pub names_of_params : List ParamText → List (List ℕ)
-names_of_params ps = map (λ (p : ParamText). p.name) ps
+-- the base by its number, or the offset where there is no base
+abbrev pub flat_term_by : Option Var → ℤ → FlatTerm
+flat_term_by None z = Number z
+flat_term_by (Some v) z = Named v.number
 
--- a name by its place among these
-abbrev pub flat_content : List (List ℕ) → ContentText → FlatTerm
-flat_content names (contents.Name name) = Named (name_place names name)
-flat_content names (contents.Number n) = Number n
+-- a variable by its number, and a number as it is
+abbrev pub flat_term : Term → FlatTerm
+flat_term t = flat_term_by t.base t.offset
 
--- the cell with each name by its place among these
-abbrev pub flat_cell : List (List ℕ) → CellText → FlatCell
-flat_cell names c = record { at = Named (name_place names c.address); content = flat_content names c.content }
+-- a cell of such terms
+abbrev pub flat_cell : CellAt → FlatCell
+flat_cell c = record { at = flat_term c.at; content = flat_term c.content }
 
--- the goal that the text says
-abbrev pub flat_of : FlatText → Flat
-flat_of t =
-    let names : List (List ℕ) = all_names t in
-    record {
-      program = map (name_place names) (param_names t);
-      exist = map (name_place names) (drop (length (universal_names t)) names);
-      positive = [];
-      pre = map (flat_cell names) t.pre;
-      equations = [];
-      post = map (flat_cell names) t.post;
-    }
+-- the cell that a chunk is, and nothing for another chunk
+abbrev pub chunk_cells : Chunk → List FlatCell
+chunk_cells (Cell c) = flat_cell c ∷ []
+chunk_cells _ = []
 
--- no number in the cells is large
-abbrev pub are_small : List CellText → Bool
-are_small cs = list_all (λ (c : CellText). is_small_content c.content) cs
+-- the cells among the chunks
+abbrev pub flat_cells : List Chunk → List FlatCell
+flat_cells cs = flat_map chunk_cells cs
 
--- few cells and parameters
-abbrev pub is_short : FlatText → Bool
-is_short t = nat_le (length t.pre) 16 && nat_le (length t.post) 16 && nat_le (length t.params) 12
+-- the numbers of these variables
+abbrev pub numbers_of : List Var → List ℕ
+numbers_of vs = map (λ (v : Var). v.number) vs
 
--- numbers are small, and the goal as it is written is within the limits
-abbrev pub is_written_within : FlatText → Bool
-is_written_within t = is_short t && is_small_text t && nat_le (length (all_names t)) 64
+-- variables by their numbers, and the cells of both sides
+abbrev pub flat_goal : Goal → Flat
+flat_goal g = record {
+  program = numbers_of g.program;
+  exist = numbers_of g.exist;
+  positive = [];
+  pre = flat_cells g.pre.chunks;
+  equations = [];
+  post = flat_cells g.post.chunks;
+}

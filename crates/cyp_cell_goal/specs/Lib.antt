@@ -1,2 +1,2 @@
-pub mod FlatGoal
+pub mod FlatGoals
 pub mod FlatOf

@@ -1,90 +1,70 @@
-ghost use Rattle.std.specs.Prelude.{◌≡◌, ◌≤◌, IfOk, IsTrue, length, map};
-ghost use Rattle.cyp_cell_goal.specs.FlatGoal.{all_names, is_small_content, is_small_text, name_place, universal_names};
-ghost use Rattle.cyp_cell_goal.specs.FlatOf.{are_small, flat_cell, flat_content, flat_of, names_of_params};
+ghost use Rattle.std.specs.Prelude.{◌≡◌, IfOk, IsTrue};
+ghost use Rattle.std.specs.List.{list_all};
+ghost use Rattle.cyp_cell_goal.specs.FlatOf.{flat_cell, flat_cells, flat_goal, flat_term, numbers_of};
+ghost use Rattle.cyp_cells.specs.CellMoves.{is_small, is_small_cell};
 
-use crate::names::place;
-use cyp_cell_text::{CellText, ContentText, FlatText, Name, ParamText};
 use cyp_cells::{Flat, FlatCell, FlatTerm};
-use cyp_term::{List, NoMemory};
+use cyp_heap::{CellAt, Chunk, Goal};
+use cyp_term::{List, NoMemory, Term, Var};
 use std::alloc::Global;
 
-fn content_term(names: &[Name], content: &ContentText) -> FlatTerm
-    requires few { length names.now ≤ 64 }
-    requires small { IsTrue (is_small_content content.now) }
-    ensures { result ≡ flat_content names.now content.now }
+#[tactic(auto, using(crate::proofs::SmallNumbers::small_offset))]
+fn flat_term(term: &Term) -> FlatTerm
+    ensures same { result ≡ flat_term term.now }
+    ensures small { IsTrue (is_small result) }
 {
-    match content {
-        ContentText::Name(name) => FlatTerm::Named(place(names, name)),
-        ContentText::Number(number) => FlatTerm::Number(*number as u32),
+    match term.base() {
+        Some(var) => FlatTerm::Named(var.number),
+        None => FlatTerm::Number(term.offset()),
     }
 }
 
-fn cell_of(names: &[Name], cell: &CellText) -> FlatCell
-    requires few { length names.now ≤ 64 }
-    requires small { IsTrue (is_small_content cell.now.content) }
-    ensures { result ≡ flat_cell names.now cell.now }
+fn flat_cell(cell: &CellAt) -> FlatCell
+    ensures same { result ≡ flat_cell cell.now }
+    ensures small { IsTrue (is_small_cell result) }
 {
     FlatCell {
-        at: FlatTerm::Named(place(names, &cell.address)),
-        content: content_term(names, &cell.content),
+        at: flat_term(&cell.at),
+        content: flat_term(&cell.content),
     }
 }
 
-fn cells_of(alloc: Global, names: &[Name], cells: &[CellText]) -> Result<List<FlatCell>, NoMemory>
-    requires few { length names.now ≤ 64 }
-    requires small { IsTrue (are_small cells.now) }
-    ensures { IfOk result (λ cs. cs ≡ map (flat_cell names.now) cells.now) }
+#[tactic(auto, using(crate::proofs::SmallNumbers::all_small_more))]
+fn cells_of(alloc: Global, chunks: &[Chunk]) -> Result<List<FlatCell>, NoMemory>
+    ensures same { IfOk result (λ cs. cs ≡ flat_cells chunks.now) }
+    ensures small { IfOk result (λ cs. IsTrue (list_all is_small_cell cs)) }
 {
-    let mut made = Vec::new(alloc);
-    for cell in cells {
-        made.push(cell_of(names, cell))?;
+    let mut cells = Vec::new(alloc);
+    for chunk in chunks {
+        if let Chunk::Cell(cell) = chunk {
+            cells.push(flat_cell(cell))?;
+        }
     }
-    Ok(List::from_vec(made))
+    Ok(List::from_vec(cells))
 }
 
-fn params_of(alloc: Global, names: &[Name], params: &[ParamText]) -> Result<List<u8>, NoMemory>
-    requires { length names.now ≤ 64 }
-    ensures { IfOk result (λ vs. vs ≡ map (name_place names.now) (names_of_params params.now)) }
+fn numbers_of(alloc: Global, vars: &[Var]) -> Result<List<u8>, NoMemory>
+    ensures { IfOk result (λ vs. vs ≡ numbers_of vars.now) }
 {
-    let mut places = Vec::new(alloc);
-    for param in params {
-        places.push(place(names, &param.name))?;
+    let mut numbers = Vec::new(alloc);
+    for var in vars {
+        numbers.push(var.number)?;
     }
-    Ok(List::from_vec(places))
+    Ok(List::from_vec(numbers))
 }
 
-fn places_of(alloc: Global, names: &[Name], wanted: &[Name]) -> Result<List<u8>, NoMemory>
-    requires { length names.now ≤ 64 }
-    ensures { IfOk result (λ vs. vs ≡ map (name_place names.now) wanted.now) }
-{
-    let mut places = Vec::new(alloc);
-    for name in wanted {
-        places.push(place(names, name))?;
-    }
-    Ok(List::from_vec(places))
-}
-
-/// The goal of the text. The names are all of the text's, by first occurrence, and those from
-/// `universal` on stand in the postcondition alone.
-#[tactic(auto, using(crate::proofs::SameNames::universal_le))]
-pub(crate) fn flat_of(
-    alloc: Global,
-    names: &[Name],
-    universal: usize,
-    text: &FlatText,
-) -> Result<Flat, NoMemory>
-    requires few { length names.now ≤ 64 }
-    requires small { IsTrue (is_small_text text.now) }
-    requires all { names.now ≡ all_names text.now }
-    requires first { universal ≡ length (universal_names text.now) }
-    ensures { IfOk result (λ f. f ≡ flat_of text.now) }
+/// The goal as a small value; what isn't a cell is left out. Numbers are at most 2^32 in size.
+pub(crate) fn flat_goal(alloc: Global, goal: &Goal) -> Result<Flat, NoMemory>
+    ensures same { IfOk result (λ f. f ≡ flat_goal goal.now) }
+    ensures small_pre { IfOk result (λ f. IsTrue (list_all is_small_cell f.pre)) }
+    ensures small_post { IfOk result (λ f. IsTrue (list_all is_small_cell f.post)) }
 {
     Ok(Flat {
-        program: params_of(alloc, names, text.params.as_slice())?,
-        exist: places_of(alloc, names, &names[universal..])?,
+        program: numbers_of(alloc, goal.program.as_slice())?,
+        exist: numbers_of(alloc, goal.exist.as_slice())?,
         positive: List::from_vec(Vec::new(alloc)),
-        pre: cells_of(alloc, names, text.pre.as_slice())?,
+        pre: cells_of(alloc, goal.pre.chunks())?,
         equations: List::from_vec(Vec::new(alloc)),
-        post: cells_of(alloc, names, text.post.as_slice())?,
+        post: cells_of(alloc, goal.post.chunks())?,
     })
 }

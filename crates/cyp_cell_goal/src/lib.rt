@@ -1,12 +1,11 @@
-//! The goal of a flat text.
+//! Flat specifications: goals of cells alone, and the root of the search for a program.
 #![tactic(auto)]
 
 mod flat;
-mod limits;
-mod names;
 mod root;
+mod shape;
 
-pub use root::root_of_text;
+pub use root::root_of_spec;
 
 #[cfg(test)]
 mod tests;

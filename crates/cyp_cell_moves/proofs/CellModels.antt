@@ -1,9 +1,10 @@
 -- When the facts of a goal of cells alone are satisfiable: where no two addresses are written alike.
-use Rattle.std.proofs.Common.{◌≡◌, ℕ, suc, ◌+◌, ◌≤◌, pos, [], ◌∷◌, ◌++◌, List, true, not, map, refl, ap, subst, sym, arith}
+use Rattle.std.proofs.Common.{◌≡◌, ◌∙◌, ℕ, ℤ, suc, ◌+◌, ◌≤◌, pos, nat_abs, [], ◌∷◌, ◌++◌, List, true, not, map, refl, ap, subst, sym, arith}
 use Rattle.std.specs.List.{list_all}
 use Rattle.std.proofs.lemmas.Bool.{and_parts, and_from, false≢true}
 use Rattle.std.proofs.lemmas.Bool.Decides.{Decides-not, same_from_decides}
 use Rattle.std.proofs.lemmas.Int.{ints}
+use Rattle.std.proofs.Math.IntN.{+ℤ_idl, +ℤ_idr}
 use Rattle.cyp_term.specs.declared.lit.Lit.{Lit}
 use Rattle.cyp_term.specs.declared.lit.Lit.TheVariants.{Ne}
 use Rattle.cyp_term.specs.Meaning.{AllTrue, Assignment, Truth, value}
@@ -39,17 +40,21 @@ AllTrue-right s ls ms h = (AllTrue-every s ms).1 (Every-right (Truth s) ls ms ((
 abbrev pub above : ℕ → Assignment
 above k = record { number = λ v. pos (suc (v.number + k)); members = λ v. [] }
 
--- the number that the term is, and 0 for a variable
+-- the size of the number that the term is, and 0 for a variable
 abbrev pub number_in : FlatTerm → ℕ
 number_in (Named v) = 0
-number_in (Number n) = n
+number_in (Number n) = nat_abs n
 
--- terms of equal values are the same, where their numbers are at most k
+-- no number of at most this size is above it
+above_number : (k v : ℕ) (n : ℤ) → nat_abs n ≤ k → pos (suc (v + k)) ≡ n → ⊥
+above_number k v n h e = let l : suc (v + k) ≤ k = subst (λ z. nat_abs z ≤ k) (sym e) h in omega arith
+
+-- terms of equal values are the same, where their numbers are at most k in size
 pub same_from_value : (k : ℕ) (a b : FlatTerm) → number_in a ≤ k → number_in b ≤ k → value (above k) (term_of a) ≡ value (above k) (term_of b) → a ≡ b
 same_from_value k (Named v) (Named w) h j e = let p : v ≡ w = omega (arith, ints) in ap Named p
-same_from_value k (Number m) (Number n) h j e = let p : m ≡ n = omega (arith, ints) in ap Number p
-same_from_value k (Named v) (Number n) h j e = absurd (omega (arith, ints))
-same_from_value k (Number n) (Named v) h j e = absurd (omega (arith, ints))
+same_from_value k (Number m) (Number n) h j e = ap Number (sym (+ℤ_idl m) ∙ e ∙ +ℤ_idl n)
+same_from_value k (Named v) (Number n) h j e = absurd (above_number k v n j (sym (+ℤ_idr (pos (suc (v + k)))) ∙ e ∙ +ℤ_idl n))
+same_from_value k (Number n) (Named v) h j e = absurd (above_number k v n h (sym (+ℤ_idr (pos (suc (v + k)))) ∙ sym e ∙ +ℤ_idl n))
 
 -- a variable is no number
 number_in-named : (k : ℕ) (t : FlatTerm) → is_named t ≡ true → number_in t ≤ k

@@ -1,6 +1,6 @@
 -- Terms of goals of cells alone: when two are the same, and what tests say of what they stand for.
-use Rattle.std.proofs.Common.{◌≡◌, ℕ, pos, [], ◌∷◌, List, Some, false, ◌||◌, Decides, map, refl, sym, ap, ◌∙◌}
-use Rattle.std.proofs.lemmas.Bool.Decides.{Decides-eqb, Decides-like, same_from_decides}
+use Rattle.std.proofs.Common.{◌≡◌, ℕ, ℤ, [], ◌∷◌, List, Some, false, ◌||◌, Decides, map, refl, sym, ap, ◌∙◌}
+use Rattle.std.proofs.lemmas.Bool.Decides.{Decides-eqb, Decides-int_eq, Decides-like, same_from_decides}
 use Rattle.std.proofs.lemmas.List.Folds.{list_any-append}
 use Rattle.cyp_term.specs.declared.term.Var.{Var}
 use Rattle.cyp_term.specs.declared.term.Term.{Term}
@@ -21,12 +21,12 @@ use Rattle.cyp_cells.specs.CellMoves.{has_existential, is_program_term}
 -- the test of terms that are written alike decides equality
 pub Decides-same_term : (a b : FlatTerm) → Decides (same_term a b) (a ≡ b)
 Decides-same_term (Named v) (Named w) = Decides-like _ (λ e. ap Named e) (λ e. cc) (Decides-eqb v w)
-Decides-same_term (Number m) (Number n) = Decides-like _ (λ e. ap Number e) (λ e. cc) (Decides-eqb m n)
+Decides-same_term (Number m) (Number n) = Decides-like _ (λ e. ap Number e) (λ e. cc) (Decides-int_eq m n)
 Decides-same_term (Named v) (Number n) = Decides-no (λ e. cc)
 Decides-same_term (Number n) (Named v) = Decides-no (λ e. cc)
 
 -- a variable is no number
-named_or_number : (v n : ℕ) → term_of (Named v) ≡ term_of (Number n) → ⊥
+named_or_number : (v : ℕ) (n : ℤ) → term_of (Named v) ≡ term_of (Number n) → ⊥
 named_or_number v n e = let b = ap (λ (t : Term). t.base) e in cc
 
 -- different terms stand for different terms
@@ -35,10 +35,7 @@ same_from_term_of (Named v) (Named w) e =
     let b : Some (int_var v) ≡ Some (int_var w) = ap (λ (t : Term). t.base) e in
     let x : int_var v ≡ int_var w = cc in
     ap Named (ap (λ (y : Var). y.number) x)
-same_from_term_of (Number m) (Number n) e =
-    let o : pos m ≡ pos n = ap (λ (t : Term). t.offset) e in
-    let q : m ≡ n = cc in
-    ap Number q
+same_from_term_of (Number m) (Number n) e = ap Number (ap (λ (t : Term). t.offset) e)
 same_from_term_of (Named v) (Number n) e = absurd (named_or_number v n e)
 same_from_term_of (Number n) (Named v) e = absurd (named_or_number v n (sym e))
 

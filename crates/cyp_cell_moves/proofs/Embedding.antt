@@ -1,8 +1,7 @@
 -- Variables, terms, cells and literals of goals of cells alone, as those of the general definitions.
-use Rattle.std.proofs.Common.{◌≡◌, ◌∙◌, ℕ, [], ◌∷◌, ◌++◌, ◌==◌, List, Bool, true, false, ◌&&◌, map, filter, pos, refl, sym, ap, ap₂, append-nil, add-zero, arith, inl, inr, ◌⊎◌, ◌<◌, ne_of_lt, ne_of_gt, le_of_lt}
-use Rattle.std.proofs.lemmas.Bool.{cases_order, eq-eqb, le-ltb, lt-ltb, ne_eqb}
+use Rattle.std.proofs.Common.{◌≡◌, ◌∙◌, ℕ, [], ◌∷◌, ◌++◌, ◌==◌, List, Bool, true, false, ◌&&◌, map, filter, pos, refl, sym, ap, ap₂, append-nil}
+use Rattle.std.proofs.Math.IntN.{+ℤ_idr}
 use Rattle.std.proofs.lemmas.List.{map-append}
-use Rattle.std.specs.Ordering.{int_eq}
 use Rattle.cyp_cell_moves.proofs.MapLaws.{filter_empty, flat_map-map, list_any-map, without_repeats-map}
 use Rattle.cyp_cells.specs.CellNormal.{same_equation}
 use Rattle.cyp_cells.specs.declared.flat.FlatRenaming.{FlatRenaming}
@@ -31,22 +30,11 @@ and_true : (b : Bool) → (b && true) ≡ b
 and_true true = refl
 and_true false = refl
 
-int_eq_apart : (m n : ℕ) → (m < n) ⊎ (n < m) → int_eq (pos m) (pos n) ≡ (m == n)
-int_eq_apart m n (inl h) = rw (lt-ltb m n h, ne_eqb m n (ne_of_lt h)) refl
-int_eq_apart m n (inr h) = rw (le-ltb m n (le_of_lt h), lt-ltb n m h, ne_eqb m n (ne_of_gt h)) refl
-
-int_eq_cases : (m n : ℕ) → (m ≡ n) ⊎ ((m < n) ⊎ (n < m)) → int_eq (pos m) (pos n) ≡ (m == n)
-int_eq_cases m n (inl e) = rw (le-ltb m n (omega arith), le-ltb n m (omega arith), eq-eqb m n e) refl
-int_eq_cases m n (inr o) = int_eq_apart m n o
-
-pub int_eq-pos : (m n : ℕ) → int_eq (pos m) (pos n) ≡ (m == n)
-int_eq-pos m n = int_eq_cases m n (cases_order m n)
-
 pub term_eq-term_of : (t u : FlatTerm) → term_eq (term_of t) (term_of u) ≡ same_term t u
 term_eq-term_of (Named v) (Named w) = and_true (v == w)
 term_eq-term_of (Named v) (Number n) = refl
 term_eq-term_of (Number n) (Named v) = refl
-term_eq-term_of (Number m) (Number n) = int_eq-pos m n
+term_eq-term_of (Number m) (Number n) = refl
 
 pub lit_eq-positive_of : (v w : ℕ) → lit_eq (positive_of v) (positive_of w) ≡ (v == w)
 lit_eq-positive_of v w = and_true (v == w)
@@ -58,7 +46,7 @@ lit_eq-equation_of d e = λ i. term_eq-term_of d.left e.left i && term_eq-term_o
 
 pub plus-term_of : (t : FlatTerm) → plus (term_of t) (pos 0) ≡ term_of t
 plus-term_of (Named v) = refl
-plus-term_of (Number n) = ap (λ k. number_term (pos k)) (add-zero n)
+plus-term_of (Number n) = ap number_term (+ℤ_idr n)
 
 -- ---- variables
 

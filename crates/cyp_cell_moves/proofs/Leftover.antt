@@ -1,7 +1,7 @@
 -- Equations that are left in a normal form have no existential and two different sides.
 use Rattle.std.proofs.Common.{◌≡◌, ℕ, zero, suc, ◌≤◌, Bool, true, false, List, [], ◌∷◌, ◌++◌, map, length, ◌||◌, ◌&&◌, not, Option, Some, None, refl, sym, ap, ◌∙◌, ⊎_elim, arith}
 use Rattle.std.proofs.lemmas.Bool.{false≢true, and_parts, and_from, cases_Bool, cond-true, cond-false, false_from_ne_true, not-true, not_from_false, or_cases}
-use Rattle.std.proofs.lemmas.Cmp.{nat_eq_equiv}
+use Rattle.std.proofs.lemmas.Cmp.{int_eq_equiv, nat_eq_equiv}
 use Rattle.std.proofs.lemmas.List.{length-map, nil_from_length}
 use Rattle.std.proofs.lemmas.Option.{none-some, same_Some}
 use Rattle.std.proofs.lemmas.List.Folds.{list_all-append}
@@ -74,7 +74,7 @@ stuck_from_none exist (e ∷ es) k = step (solution exist e) (pick_first exist e
 -- whether terms are written alike has no order
 pub same_term_comm : (a b : FlatTerm) → same_term a b ≡ same_term b a
 same_term_comm (Named v) (Named w) = nat_eq_equiv.symm v w
-same_term_comm (Number m) (Number n) = nat_eq_equiv.symm m n
+same_term_comm (Number m) (Number n) = int_eq_equiv.symm m n
 same_term_comm (Named v) (Number n) = refl
 same_term_comm (Number n) (Named v) = refl
 

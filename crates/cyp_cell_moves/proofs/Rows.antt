@@ -1,5 +1,5 @@
 -- Worked goals: the normal form of cells alone is that of the general definition.
-use Rattle.std.proofs.Common.{◌≡◌, ℕ, [], ◌∷◌, option_map, refl}
+use Rattle.std.proofs.Common.{◌≡◌, ℕ, [], ◌∷◌, option_map, pos, refl}
 use Rattle.cyp_cell_moves.proofs.Embedding.{renaming_of}
 use Rattle.cyp_goal.specs.Normal.{normal}
 use Rattle.cyp_cells.specs.declared.flat.FlatTerm.{FlatTerm}
@@ -17,7 +17,7 @@ at v c = record { at = Named v; content = c }
 
 -- { x :-> a } { x :-> 5 }
 abbrev constant : Flat
-constant = record { program = 0 ∷ []; exist = []; positive = []; pre = at 0 (Named 1) ∷ []; equations = []; post = at 0 (Number 5) ∷ [] }
+constant = record { program = 0 ∷ []; exist = []; positive = []; pre = at 0 (Named 1) ∷ []; equations = []; post = at 0 (Number (pos 5)) ∷ [] }
 
 -- an existential address and content, an unused parameter, numbers out of order
 abbrev mixed : Flat
@@ -25,8 +25,8 @@ mixed = record {
   program = 3 ∷ 0 ∷ 9 ∷ [];
   exist = 7 ∷ 5 ∷ 8 ∷ [];
   positive = 4 ∷ 2 ∷ 0 ∷ [];
-  pre = at 0 (Named 6) ∷ at 6 (Number 1) ∷ at 2 (Named 2) ∷ [];
-  equations = record { left = Named 5; right = Named 6 } ∷ record { left = Named 5; right = Number 3 } ∷ record { left = Named 0; right = Named 0 } ∷ [];
+  pre = at 0 (Named 6) ∷ at 6 (Number (pos 1)) ∷ at 2 (Named 2) ∷ [];
+  equations = record { left = Named 5; right = Named 6 } ∷ record { left = Named 5; right = Number (pos 3) } ∷ record { left = Named 0; right = Named 0 } ∷ [];
   post = at 5 (Named 7) ∷ at 7 (Named 5) ∷ [];
 }
 

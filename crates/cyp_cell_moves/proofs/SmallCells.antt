@@ -18,7 +18,7 @@ use Rattle.cyp_term.specs.Terms.{wide_lit, wide_term}
 abbrev pub is_small_equation : FlatEquation → Bool
 is_small_equation e = is_small e.left && is_small e.right
 
--- the numbers of both heaps and the equations are at most 2^32
+-- the numbers of both heaps and the equations are at most 2^32 in size
 pub record IsSmall (f : Flat) : Type 0 where
   pub pre : IsTrue (list_all is_small_cell f.pre)
   pub post : IsTrue (list_all is_small_cell f.post)

@@ -1,5 +1,5 @@
 -- The derivation of a constant store, for a test.
-use Rattle.std.proofs.Common.{◌≡◌, List, [], ◌∷◌, map, refl, sym, ap, ◌∙◌, subst, lit<}
+use Rattle.std.proofs.Common.{◌≡◌, List, [], ◌∷◌, map, negsuc, refl, sym, ap, ◌∙◌, subst, lit<}
 use Rattle.std.specs.List.{Contains}
 use Rattle.cyp_kernel.specs.Companions.{Proof}
 use Rattle.cyp_moves.specs.Moves.{moves}
@@ -27,10 +27,10 @@ abbrev pub holds : FlatTerm → List FlatCell
 holds t = record { at = Named 0; content = t } ∷ []
 
 abbrev before : Flat
-before = one_place (holds (Named 1)) (holds (Number 5))
+before = one_place (holds (Named 1)) (holds (Number (negsuc 4)))
 
 abbrev stored : Flat
-stored = one_place (holds (Number 5)) (holds (Number 5))
+stored = one_place (holds (Number (negsuc 4))) (holds (Number (negsuc 4)))
 
 abbrev done : Flat
 done = one_place [] []

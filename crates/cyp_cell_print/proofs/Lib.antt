@@ -7,6 +7,7 @@ mod Numbering
 mod Listing
 mod ShortNumbers
 mod Appending
+mod Integers
 mod SolvedTrees
 mod Loop
 mod Whole

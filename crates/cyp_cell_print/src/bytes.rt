@@ -1,5 +1,5 @@
 ghost use Rattle.std.specs.Prelude.{◌≡◌, ◌++◌, OnOk, decimal};
-ghost use Rattle.cyp_prog.specs.ProgramText.{var_text};
+ghost use Rattle.cyp_prog.specs.ProgramText.{number_text, var_text};
 
 use cyp_term::NoMemory;
 use itoa::Buffer;
@@ -15,6 +15,15 @@ pub(crate) fn add(text: &mut Vec<u8>, bytes: &[u8]) -> Result<(), NoMemory>
 /// Writes a number in decimal.
 pub(crate) fn add_number(text: &mut Vec<u8>, number: u64) -> Result<(), NoMemory>
     ensures { OnOk result (text.new.items ≡ text.old.items ++ decimal number) }
+{
+    let mut buffer = Buffer::new();
+    add(text, buffer.format(number).as_bytes())
+}
+
+/// Writes an integer in decimal, with `-` before a negative one.
+#[tactic(auto, using(crate::proofs::Integers::signed_text))]
+pub(crate) fn add_integer(text: &mut Vec<u8>, number: i64) -> Result<(), NoMemory>
+    ensures { OnOk result (text.new.items ≡ text.old.items ++ number_text number) }
 {
     let mut buffer = Buffer::new();
     add(text, buffer.format(number).as_bytes())

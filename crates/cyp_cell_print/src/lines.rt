@@ -6,7 +6,7 @@ ghost use Rattle.cyp_kernel.specs.Statements.{focus_content, pre_cell_at};
 ghost use Rattle.cyp_prog.specs.ProgramText.{expr_text, place_text, statement_text};
 ghost use Rattle.cyp_prog.specs.Programs.{Loading, Storing};
 
-use crate::bytes::{add, add_number, add_variable};
+use crate::bytes::{add, add_integer, add_variable};
 use crate::names::number_of;
 use cyp_cells::{Flat, FlatTerm};
 use cyp_step::Rule;
@@ -26,7 +26,7 @@ fn add_term(
         FlatTerm::Named(var) => {
             add_variable(text, number_of(goal.program.as_slice(), numbers, var))
         }
-        FlatTerm::Number(number) => add_number(text, u64::from(number)),
+        FlatTerm::Number(number) => add_integer(text, number),
     }
 }
 

@@ -70,21 +70,21 @@ fn derived(
 #[test]
 fn prints_a_store(rt: HostRuntime) -> Result<(), Fail> {
     let alloc = rt.alloc();
-    let five = FlatTerm::Number(5);
+    let minus_five = FlatTerm::Number(-5);
     let done = goal(alloc, none(alloc), none(alloc))?;
     let last = derived(alloc, done, Rule::ByEmp, none(alloc))?;
-    let stored = goal(alloc, holds(alloc, five)?, holds(alloc, five)?)?;
+    let stored = goal(alloc, holds(alloc, minus_five)?, holds(alloc, minus_five)?)?;
     let framed = derived(alloc, stored, Rule::ByFrame(0), one(alloc, last)?)?;
     let before = goal(
         alloc,
         holds(alloc, FlatTerm::Named(1))?,
-        holds(alloc, five)?,
+        holds(alloc, minus_five)?,
     )?;
     let found = derived(alloc, before, Rule::ByWrite(0), one(alloc, framed)?)?;
     let text = program_text(alloc, b"v5", &found)?;
     assert_eq!(rt;
         text.as_slice(),
-        b"void v5_0(v1) {\n  *v1 = 5;\n}\n".as_slice()
+        b"void v5_0(v1) {\n  *v1 = -5;\n}\n".as_slice()
     );
     Ok(())
 }

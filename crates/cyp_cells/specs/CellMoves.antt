@@ -1,5 +1,5 @@
 -- The moves of a goal of cells alone that is in normal form and has no equation.
-use Rattle.std.specs.Prelude.{[], ◌&&◌, ◌++◌, ◌==◌, Bool, IsTrue, List, None, Option, Some, cond, count_by, false, filter_map, length, map, max, nat_le, nat_lt, not, option_to_list, slice_get, slice_set, suc, true, zero, ◌||◌, ℕ, ◌∷◌, ◌≡◌}
+use Rattle.std.specs.Prelude.{[], ◌&&◌, ◌++◌, ◌==◌, Bool, IsTrue, List, None, Option, Some, cond, count_by, false, filter_map, length, map, max, nat_abs, nat_le, nat_lt, not, option_to_list, slice_get, slice_set, suc, true, zero, ◌||◌, ℕ, ◌∷◌, ◌≡◌}
 use Rattle.std.specs.List.{list_all, list_any}
 use Rattle.std.specs.Option.{option_and_then}
 use Rattle.cyp_cells.specs.CellNormal.{is_flat_within, normal_flat, put_cell}
@@ -168,12 +168,12 @@ abbrev pub is_named : FlatTerm → Bool
 is_named (Named v) = true
 is_named (Number n) = false
 
--- a variable, or a number of at most 2^32
+-- a variable, or a number of at most 2^32 in size
 abbrev pub is_small : FlatTerm → Bool
 is_small (Named v) = true
-is_small (Number n) = nat_le n 4294967296
+is_small (Number n) = nat_le (nat_abs n) 4294967296
 
--- address and content are variables or numbers of at most 2^32
+-- address and content are variables or numbers of at most 2^32 in size
 abbrev pub is_small_cell : FlatCell → Bool
 is_small_cell c = is_small c.at && is_small c.content
 
@@ -187,7 +187,7 @@ are_used f = list_all (λ v. among v (cells_numbers f.post)) f.exist
 
 -- what each goal of a search of cells alone keeps
 pub record IsCells (f : Flat) : Type 0 where
-  -- addresses of the precondition are variables, and numbers are at most 2^32
+  -- addresses of the precondition are variables, and numbers are at most 2^32 in size
   pub named : IsTrue (list_all (λ (c : FlatCell). is_named c.at) f.pre)
   pub small_pre : IsTrue (list_all is_small_cell f.pre)
   pub small_post : IsTrue (list_all is_small_cell f.post)

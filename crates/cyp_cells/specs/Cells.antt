@@ -1,6 +1,7 @@
 -- A goal of cells alone as a goal, and the numbers of its variables.
 use Rattle.std.specs.Prelude.{[], ◌++◌, ◌==◌, Bool, List, false, flat_map, map, pos, ℕ, ◌∷◌}
 use Rattle.std.specs.List.{list_any}
+use Rattle.std.specs.Ordering.{int_eq}
 use Rattle.cyp_cells.specs.declared.flat.Flat.{Flat}
 use Rattle.cyp_cells.specs.declared.flat.FlatCell.{FlatCell}
 use Rattle.cyp_cells.specs.declared.flat.FlatEquation.{FlatEquation}
@@ -26,7 +27,7 @@ int_var v = record { sort = Int; number = v }
 -- the integer variable, or the number as a constant
 abbrev pub term_of : FlatTerm → Term
 term_of (Named v) = var_term (int_var v)
-term_of (Number n) = number_term (pos n)
+term_of (Number n) = number_term n
 
 -- the points-to cell, as a part of a heap
 abbrev pub cell_of : FlatCell → Chunk
@@ -93,6 +94,6 @@ all_numbers f = f.program ++ cells_numbers f.pre ++ cells_numbers f.post ++ f.po
 -- the terms are written alike
 abbrev pub same_term : FlatTerm → FlatTerm → Bool
 same_term (Named v) (Named w) = v == w
-same_term (Number m) (Number n) = m == n
+same_term (Number m) (Number n) = int_eq m n
 same_term (Named v) (Number n) = false
 same_term (Number n) (Named v) = false

@@ -3,11 +3,11 @@ ghost use Rattle.std.specs.Prelude.{◌≡◌};
 use cyp_term::{Copied, List, NoMemory};
 use std::alloc::Global;
 
-/// A term without an offset: an integer variable by its number, or a number.
+/// A term without an offset: an integer variable by its number, or a number of either sign.
 #[derive(Clone, Copy, Debug, PartialEq, Eq, Hash)]
 pub enum FlatTerm {
     Named(u8),
-    Number(u32),
+    Number(i64),
 }
 
 /// A points-to cell of such terms.

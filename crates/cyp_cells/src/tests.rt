@@ -1,4 +1,4 @@
-ghost use Rattle.std.specs.Prelude.{◌≡◌, [], ◌∷◌, IfOk};
+ghost use Rattle.std.specs.Prelude.{◌≡◌, [], ◌∷◌, IfOk, pos};
 ghost use Rattle.cyp_cells.specs.declared.flat.FlatTerm.TheVariants.{Named, Number};
 
 use crate::flat::{Flat, FlatCell, FlatEquation, FlatTerm};
@@ -34,7 +34,7 @@ fn constant(alloc: Global) -> Result<Flat, NoMemory>
       positive = 0 ∷ [];
       pre = record { at = Named 0; content = Named 1 } ∷ [];
       equations = [];
-      post = record { at = Named 0; content = Number 5 } ∷ [];
+      post = record { at = Named 0; content = Number (pos 5) } ∷ [];
     }) }
 {
     Ok(Flat {

@@ -24,3 +24,6 @@ pub use tree::{
     ParamTree, PartTree, PredTree, PureTree, SetTree, SortTree, TextTree,
 };
 pub use whole_text::parse;
+
+#[cfg(test)]
+mod tests;

@@ -6,7 +6,7 @@ use Rattle.cyp_term.specs.Entailment.{arrangement_fits, arrangements, class_lite
 use Rattle.cyp_term.specs.Integers.{all_cases, both, eliminate, eliminate_all, feasible, ints_fit, joined}
 use Rattle.cyp_term.specs.Regions.{all_set_vars, all_terms, regions_fit}
 use Rattle.cyp_top.specs.Chain.{gen_output}
-use Rattle.cyp_top.specs.Output.{output}
+use Rattle.cyp_top.specs.Lines.{output}
 use Rattle.cyp_top.specs.declared.status.Status.TheVariants.{Program}
 
 one_cell : gen_output 1 ≡ output (codes "gen 1\nanswer program\nexpansions 2\nnodes 2\ndepth 1\n") Program

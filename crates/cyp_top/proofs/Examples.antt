@@ -22,7 +22,7 @@ use Rattle.cyp_search.specs.Reports.{Spent as BudgetSpent}
 use Rattle.cyp_text.specs.Reading.{IsReading, IsReadingOf}
 use Rattle.cyp_step.specs.declared.rule.Rule.{Rule}
 use Rattle.cyp_top.specs.Chain.{chain_lines}
-use Rattle.cyp_top.specs.Output.{output, words_refused}
+use Rattle.cyp_top.specs.Lines.{output, words_refused}
 use Rattle.cyp_top.specs.RunOutput.{IsRunOutput, IsRunOutputOf, block_line, cell_line, first_state, store_lines}
 use Rattle.cyp_top.specs.Synthesis.{report_output}
 use Rattle.cyp_top.specs.WholeOutput.{IsWholeOutput}

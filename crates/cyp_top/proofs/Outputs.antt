@@ -1,25 +1,31 @@
 -- The output of a text: it is one, and what the code says is it.
-use Rattle.std.proofs.Common.{◌≡◌, ◌∙◌, inl, inr, ℕ, List, length, ◌≤◌, Bool, true, false, Some, None, cond, refl, sym, ap}
-use Rattle.std.proofs.lemmas.Bool.{false≢true}
+use Rattle.std.proofs.Common.{Bool, Err, IfOk, List, None, Ok, Option, Result, Some, ap, cond, false, refl, subst, sym, true, ℕ, ◌∙◌, ◌≡◌}
 use Rattle.std.proofs.lemmas.Option.{none-some, same_Some}
+use Rattle.std.proofs.lemmas.Result.{IfOk-weaker}
+use Rattle.cyp_cell_goal.specs.FlatGoals.{flat_root, is_flat, root_of}
 use Rattle.cyp_heap.specs.declared.goal.Node.{Node}
-use Rattle.cyp_step.specs.declared.rule.Rule.{Rule}
-use Rattle.cyp_cell_text.specs.FlatText.{IsFlat}
-use Rattle.cyp_cell_text.specs.declared.text.FlatText.{FlatText}
-use Rattle.cyp_cell_text.proofs.OneTree.{one_tree}
-use Rattle.cyp_cell_goal.specs.FlatGoal.{is_text_within, root_of, root_within}
-use Rattle.cyp_search.specs.Reports.{Found, NoneFound, PlainReport, PlainVerdict, Spent, report}
+use Rattle.cyp_lex.specs.declared.fault.Fault.{Fault}
 use Rattle.cyp_search.proofs.FoundFollows.{found_follows}
-use Rattle.cyp_top.specs.Given.{IsFoundVerdict}
-use Rattle.cyp_top.specs.Output.{IsOutputBy, IsSynthOutput, Output, goal_space, not_built, synth_output, verdict_output}
+use Rattle.cyp_search.specs.Reports.{Found, NoneFound, PlainReport, PlainVerdict, Spent, report}
+use Rattle.cyp_spec.specs.ReadSpecs.{IsReadSpec}
+use Rattle.cyp_step.specs.declared.rule.Rule.{Rule}
+use Rattle.cyp_term.specs.declared.fail.Fail.{Fail}
+use Rattle.cyp_term.specs.declared.fail.Fail.TheVariants.{Named}
+use Rattle.cyp_term.specs.declared.fail.NoMemory.{NoMemory}
+use Rattle.cyp_text.proofs.Decided.{one_tree}
+use Rattle.cyp_text.proofs.Unique.{one_reading}
+use Rattle.cyp_text.specs.Specifications.{Specification}
+use Rattle.cyp_top.specs.Given.{IsFoundVerdict, plain_answer}
+use Rattle.cyp_top.specs.Lines.{Output, output, verdict_output}
+use Rattle.cyp_top.specs.Output.{IsOutputBy, IsSynthOutput, goal_space, search_report, specification_output, synth_output}
+use Rattle.cyp_top.specs.Reports.{fault_name, refused_at}
+use Rattle.cyp_top.specs.declared.answer.Answer.{Answer}
+use Rattle.cyp_top.specs.declared.status.Status.TheVariants.{Refused}
 
 -- there is one output at most
 pub one_output : (synth : Bool) (bytes : List ℕ) (a b : Output) → IsOutputBy synth bytes a → IsOutputBy synth bytes b → a ≡ b
 one_output false bytes a b h k = h ∙ sym k
-one_output true bytes a b (inl h) (inl k) = h.2 ∙ ap synth_output (one_tree bytes h.0 k.0 h.1.1.0 k.1.1.0) ∙ sym k.2
-one_output true bytes a b (inl h) (inr k) = absurd (k.0 h.0 h.1)
-one_output true bytes a b (inr h) (inl k) = absurd (h.0 k.0 k.1)
-one_output true bytes a b (inr h) (inr k) = h.1 ∙ sym k.1
+one_output true bytes a b h k = h.2 ∙ ap synth_output (one_reading one_tree bytes h.0 k.0 h.1 k.1) ∙ sym k.2
 
 -- ---- roots
 
@@ -27,18 +33,9 @@ root_by : (b : Bool) (m n : Node) → cond b (Some m) None ≡ Some n → (b ≡
 root_by true m n e = (refl, sym (same_Some m n e))
 root_by false m n e = absurd (none-some n e)
 
-no_root_by : (b : Bool) (m : Node) → cond b (Some m) None ≡ None → b ≡ true → ⊥
-no_root_by true m e h = none-some m (sym e)
-no_root_by false m e h = false≢true h
-
--- where a text is taken, its root is there
-pub is_root : (t : FlatText) (n : Node) → Some n ≡ root_within t → (is_text_within t ≡ true) × (n ≡ root_of t)
-is_root t n e = root_by (is_text_within t) (root_of t) n (sym e)
-
--- a flat text without a root isn't taken, and no other tree has its bytes
-pub not_taken : (bytes : List ℕ) (t : FlatText) → IsFlat bytes t → None ≡ root_within t → IsSynthOutput bytes not_built
-not_taken bytes t flat e =
-    inr (λ u taken. no_root_by (is_text_within t) (root_of t) (sym e) (ap is_text_within (one_tree bytes t u flat taken.1.0) ∙ taken.1.1), refl)
+no_root_by : (b : Bool) (m : Node) → cond b (Some m) None ≡ None → b ≡ false
+no_root_by true m e = absurd (none-some m (sym e))
+no_root_by false m e = refl
 
 -- ---- verdicts
 
@@ -51,9 +48,35 @@ found_by n Spent e = tt
 pub is_found : (n : Node) (v : PlainVerdict Rule Node) (r : PlainReport Rule Node) → r ≡ report (goal_space 2) 20000 500000 n → v ≡ r.verdict → IsFoundVerdict v
 is_found n v r e h = found_by n v (sym (h ∙ ap (λ (s : PlainReport Rule Node). s.verdict) e))
 
--- what is said by the report is the output
-pub is_output : (bytes : List ℕ) (t : FlatText) (n : Node) (r : PlainReport Rule Node) (o : Output) → length bytes ≤ 65536 → IsFlat bytes t → Some n ≡ root_within t
-    → r ≡ report (goal_space 2) 20000 500000 n → o ≡ verdict_output t.name r.verdict → IsSynthOutput bytes o
-is_output bytes t n r o len flat root e said =
-    let found = is_root t n root in
-    inl (t, (len, (flat, found.0)), said ∙ ap (λ (s : PlainReport Rule Node). verdict_output t.name s.verdict) (e ∙ ap (report (goal_space 2) 20000 500000) found.1))
+-- ---- specifications
+
+-- the output by the test of flat specifications
+abbrev output_where : Specification → Bool → Output
+output_where s b = cond b (verdict_output s.name (search_report s).verdict) (verdict_output s.name NoneFound)
+
+-- a specification without a root has no program
+pub no_program : (s : Specification) → None ≡ flat_root s → verdict_output s.name NoneFound ≡ specification_output s
+no_program s e = ap (output_where s) (sym (no_root_by (is_flat s) (root_of s) (sym e)))
+
+-- what is said by the report from the root is the output
+pub is_output : (s : Specification) (n : Node) (r : PlainReport Rule Node) (o : Output) → Some n ≡ flat_root s
+    → r ≡ report (goal_space 2) 20000 500000 n → o ≡ verdict_output s.name r.verdict → o ≡ specification_output s
+is_output s n r o root e said =
+    let found : (is_flat s ≡ true) × (n ≡ root_of s) = root_by (is_flat s) (root_of s) n (sym root) in
+    said
+    ∙ ap (λ (q : PlainReport Rule Node). verdict_output s.name q.verdict) (e ∙ ap (report (goal_space 2) 20000 500000) found.1)
+    ∙ ap (output_where s) (sym found.0)
+
+-- ---- texts
+
+-- what is said of the specification that is read is the output
+pub is_read : (bytes : List ℕ) (r : Result Specification (Fail Fault)) (s : Specification) (said : Result Answer NoMemory) → IsReadSpec bytes r → r ≡ Ok s
+    → IfOk said (λ a. plain_answer a ≡ specification_output s) → IfOk said (λ a. IsSynthOutput bytes (plain_answer a))
+is_read bytes r s said read e h =
+    IfOk-weaker said (λ a. plain_answer a ≡ specification_output s) (λ a. IsSynthOutput bytes (plain_answer a))
+    (λ a is. (Ok s, subst (IsReadSpec bytes) e read, is)) h
+
+-- the line of the text's fault is the output
+pub is_refused : (bytes : List ℕ) (r : Result Specification (Fail Fault)) (f : Fault) (text : List ℕ) → IsReadSpec bytes r → r ≡ Err (Named f)
+    → text ≡ (refused_at (fault_name f.kind) f.place).text → IsSynthOutput bytes (output text Refused)
+is_refused bytes r f text read e h = (Err f, subst (IsReadSpec bytes) e read, ap (λ t. output t Refused) h)

@@ -6,7 +6,7 @@ use Rattle.cyp_step.specs.declared.rule.Rule.TheVariants.{ByEmp, ByFrame, ByRead
 use Rattle.cyp_term.specs.Entailment.{arrangement_fits, arrangements, class_literals, entailed, satisfiable}
 use Rattle.cyp_term.specs.Integers.{all_cases, both, eliminate, eliminate_all, feasible, ints_fit, joined}
 use Rattle.cyp_term.specs.Regions.{all_set_vars, all_terms, regions_fit}
-use Rattle.cyp_top.specs.Output.{output}
+use Rattle.cyp_top.specs.Lines.{output}
 use Rattle.cyp_top.specs.declared.status.Status.TheVariants.{NoProgram, Program, Spent}
 use Rattle.cyp_heap.proofs.Short.{from_nothing, swap, two_at_one, write_five}
 use Rattle.cyp_top.proofs.RowsShort.{run, trace}

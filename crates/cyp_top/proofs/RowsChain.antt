@@ -10,7 +10,7 @@ use Rattle.cyp_term.specs.Regions.{all_set_vars, all_terms, regions_fit}
 use Rattle.cyp_term.specs.declared.lit.Lit.{Lit}
 use Rattle.cyp_term.specs.declared.lit.Lit.TheVariants.{Lt}
 use Rattle.cyp_term.specs.declared.term.Var.{Var}
-use Rattle.cyp_top.specs.Output.{Output, output}
+use Rattle.cyp_top.specs.Lines.{Output, output}
 use Rattle.cyp_top.specs.declared.status.Status.TheVariants.{Program}
 use Rattle.cyp_heap.proofs.Short.{X, X+, cell, no_preds, node, num, x}
 use Rattle.cyp_top.proofs.RowsShort.{run}

@@ -13,7 +13,7 @@ use Rattle.cyp_term.specs.Regions.{all_set_vars, all_terms, regions_fit}
 use Rattle.cyp_term.specs.Terms.{plus}
 use Rattle.cyp_term.specs.declared.lit.Lit.TheVariants.{Eq, Le, Ne}
 use Rattle.cyp_term.specs.declared.term.Sort.TheVariants.{Int}
-use Rattle.cyp_top.specs.Output.{output}
+use Rattle.cyp_top.specs.Lines.{output}
 use Rattle.cyp_top.specs.declared.status.Status.TheVariants.{NoProgram, Program}
 use Rattle.cyp_heap.proofs.Short.{X, X+, block, cell, k, no_preds, node, num, x}
 use Rattle.cyp_top.proofs.RowsShort.{call, run, trace}

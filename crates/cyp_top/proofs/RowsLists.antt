@@ -7,7 +7,7 @@ use Rattle.cyp_heap.specs.declared.goal.Node.{Node}
 use Rattle.cyp_term.specs.Entailment.{arrangement_fits, arrangements, class_literals, entailed, satisfiable}
 use Rattle.cyp_term.specs.Integers.{all_cases, both, eliminate, eliminate_all, feasible, ints_fit, joined}
 use Rattle.cyp_term.specs.Regions.{all_set_vars, all_terms, regions_fit}
-use Rattle.cyp_top.specs.Output.{output}
+use Rattle.cyp_top.specs.Lines.{output}
 use Rattle.cyp_top.specs.declared.status.Status.TheVariants.{NoProgram, Program}
 use Rattle.cyp_heap.proofs.Short.{S, X, cell, clear, dispose, left_as_is, list_at, lists, node, num, out_of_reach, s, x}
 use Rattle.cyp_top.proofs.RowsShort.{call, run, trace}

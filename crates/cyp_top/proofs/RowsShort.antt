@@ -7,7 +7,7 @@ use Rattle.cyp_search.specs.Reports.{PlainReport, report}
 use Rattle.cyp_space.specs.Alts.{AltOf}
 use Rattle.cyp_step.specs.declared.rule.Rule.{Rule}
 use Rattle.cyp_step.specs.declared.rule.Rule.TheVariants.{ByCall}
-use Rattle.cyp_top.specs.Output.{Output, verdict_output}
+use Rattle.cyp_top.specs.Lines.{Output, verdict_output}
 use Rattle.cyp_tree.specs.Growing.{expand_next}
 use Rattle.cyp_tree.specs.Live.{Waiting, next_leaf}
 use Rattle.cyp_tree.specs.Statuses.{status}

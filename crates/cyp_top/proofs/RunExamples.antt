@@ -13,7 +13,7 @@ use Rattle.cyp_machine.specs.declared.cause.Cause.TheVariants.{FreeMissing}
 use Rattle.cyp_prog.proofs.Shallow.{few_braces}
 use Rattle.cyp_prog.specs.Lexemes.{program_lexemes}
 use Rattle.cyp_prog.specs.Trees.{FreeStmt, NoStmts, Stmts, Var}
-use Rattle.cyp_top.specs.Output.{output}
+use Rattle.cyp_top.specs.Lines.{output}
 use Rattle.cyp_top.specs.RunOutput.{IsRunOutput, first_state}
 use Rattle.cyp_top.specs.WholeOutput.{IsWholeOutput}
 use Rattle.cyp_top.specs.declared.status.Status.TheVariants.{NoProgram}

@@ -11,7 +11,7 @@ use Rattle.cyp_machine.specs.RunInput.{RunInput}
 use Rattle.cyp_machine.specs.States.{State, has_ended}
 use Rattle.cyp_machine.specs.Steps.{StepBy, least_pick}
 use Rattle.cyp_machine.specs.declared.cause.Cause.{Cause}
-use Rattle.cyp_top.specs.Output.{Output}
+use Rattle.cyp_top.specs.Lines.{Output}
 use Rattle.cyp_top.specs.RunOutput.{Ends, Faults, IsRunOutput, LeastRun, Spends, ended_output, faulted_output, first_state, spent_output}
 
 -- ---- one output at most

@@ -1,9 +1,16 @@
 -- What is sent to the sink is an answer.
-use Rattle.std.proofs.Common.{◌≡◌, ◌<◌, ◌≤◌, inl, inr, ℕ, List, [], length, Bool, true, false, Option, Some, None, IfSome, refl, sym, subst, arith}
+use Rattle.std.proofs.Common.{◌≡◌, ◌<◌, ◌≤◌, inl, inr, ℕ, List, [], length, Bool, true, false, Err, Option, Some, None, IfSome, refl, sym, subst, arith}
+use Rattle.std.proofs.lemmas.Bool.{lt-leb}
 use Rattle.std.proofs.lemmas.List.{drop_all}
 use Rattle.std.proofs.lemmas.Option.{IfSome_then}
+use Rattle.std.specs.Fmt.{digits}
+use Rattle.std.specs.Prelude.{codes}
+use Rattle.cyp_lex.specs.declared.fault.Fault.{Fault}
+use Rattle.cyp_lex.specs.declared.fault.FaultKind.TheVariants.{TooLong}
+use Rattle.cyp_text.specs.Reading.{IsReadingOf}
 use Rattle.cyp_top.specs.Answers.{Answers, End, IsSaid, Sends, Whole, left_of}
-use Rattle.cyp_top.specs.Output.{IsOutputBy, IsSynthOutput, Output, not_built, words_refused}
+use Rattle.cyp_top.specs.Lines.{Output, output, words_refused}
+use Rattle.cyp_top.specs.Output.{IsOutputBy, IsSynthOutput}
 use Rattle.cyp_top.specs.declared.status.Status.{Status}
 use Rattle.cyp_top.specs.declared.status.Status.TheVariants.{NoMemory, NoProgram, Program, ReadFault, Refused, Spent, Usage, WriteFault}
 
@@ -37,6 +44,13 @@ unheard (Some bytes) = (refl, refl)
 pub all_read : (bytes : List ℕ) → length bytes ≤ 65536 → left_of true bytes ≡ []
 all_read bytes len = drop_all 65537 bytes (omega (arith, len))
 
--- a text that is too long isn't taken
-pub too_long : (told : List ℕ) → 65536 < length told → IsSynthOutput told not_built
-too_long told long = inr (λ t taken. let no : ⊥ = omega (arith, long, taken.0) in no, refl)
+-- the line of a text that is too long
+abbrev pub long_refused : Output
+long_refused = output (codes "refused: TooLong at 65536\n") Refused
+
+-- a text that is too long has this fault
+pub too_long : (told : List ℕ) → 65536 < length told → IsSynthOutput told long_refused
+unfolding digits
+too_long told long =
+    let f : Fault = record { kind = TooLong; place = 65536 } in
+    (Err f, subst (λ b. IsReadingOf b told (Err f)) (sym (lt-leb (length told) 65536 long)) refl, refl)

@@ -9,7 +9,7 @@ use Rattle.cyp_text.specs.Reading.{judge}
 use Rattle.cyp_term.specs.Entailment.{arrangement_fits, arrangements, class_literals, entailed, satisfiable}
 use Rattle.cyp_term.specs.Integers.{all_cases, both, eliminate, eliminate_all, feasible, ints_fit, joined}
 use Rattle.cyp_term.specs.Regions.{all_set_vars, all_terms, regions_fit}
-use Rattle.cyp_top.specs.Output.{output}
+use Rattle.cyp_top.specs.Lines.{output}
 use Rattle.cyp_top.specs.WholeOutput.{IsWholeOutput}
 use Rattle.cyp_top.specs.declared.status.Status.TheVariants.{NoProgram, Program, Refused, Spent}
 

@@ -12,7 +12,7 @@ use Rattle.cyp_text.proofs.Unique.{one_reading}
 use Rattle.cyp_text.specs.Specifications.{Specification}
 use Rattle.cyp_top.proofs.RunOutputs.{one_run_output, some_run_output}
 use Rattle.cyp_top.specs.Chain.{gen_output}
-use Rattle.cyp_top.specs.Output.{Output, words_refused}
+use Rattle.cyp_top.specs.Lines.{Output, words_refused}
 use Rattle.cyp_top.specs.RunOutput.{IsResultOutput, IsRunOutputOf, kind_name}
 use Rattle.cyp_top.specs.Reports.{refused_at}
 use Rattle.cyp_top.specs.Synthesis.{IsSpecOutput, result_output}

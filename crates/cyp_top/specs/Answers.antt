@@ -5,7 +5,8 @@ use Rattle.cyp_io.specs.Outside.{Rose}
 use Rattle.cyp_io.specs.Whole.{ReadsFront}
 use Rattle.cyp_top.specs.declared.status.Status.{Status}
 use Rattle.cyp_top.specs.declared.status.Status.TheVariants.{ReadFault, WriteFault, NoMemory}
-use Rattle.cyp_top.specs.Output.{Output, IsOutputBy}
+use Rattle.cyp_top.specs.Lines.{Output}
+use Rattle.cyp_top.specs.Output.{IsOutputBy}
 
 -- an end of the outside: the bytes that it tells, and its count of faults
 pub record End : Type 0 where

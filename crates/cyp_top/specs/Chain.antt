@@ -14,7 +14,7 @@ use Rattle.cyp_term.specs.declared.lit.Lit.{Lit}
 use Rattle.cyp_term.specs.declared.lit.Lit.TheVariants.{Lt}
 use Rattle.cyp_term.specs.declared.term.Sort.TheVariants.{Int}
 use Rattle.cyp_term.specs.declared.term.Var.{Var}
-use Rattle.cyp_top.specs.Output.{Output, line, output}
+use Rattle.cyp_top.specs.Lines.{Output, line, output}
 use Rattle.cyp_top.specs.Synthesis.{spec_report}
 use Rattle.cyp_top.specs.declared.status.Status.{Status}
 use Rattle.cyp_top.specs.declared.status.Status.TheVariants.{NoProgram, Program, Spent}

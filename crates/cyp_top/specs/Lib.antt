@@ -2,6 +2,7 @@ pub mod Answers
 pub mod Chain
 pub mod Code
 pub mod Given
+pub mod Lines
 pub mod Output
 pub mod Reports
 pub mod RunOutput

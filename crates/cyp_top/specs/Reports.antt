@@ -5,7 +5,7 @@ use Rattle.cyp_lex.specs.declared.fault.FaultKind.{FaultKind}
 use Rattle.cyp_lex.specs.declared.fault.FaultKind.TheVariants.{BadByte, DuplicateName, Expected, GuardsOverlap, MissingProcedure, NotDifference, NumberRange, ReservedName, TooLarge, TooLong, UnboundVariable, UnknownPredicate, Unproductive, WrongArity, WrongSort}
 use Rattle.cyp_search.specs.Reports.{PlainReport}
 use Rattle.cyp_step.specs.declared.rule.Rule.{Rule}
-use Rattle.cyp_top.specs.Output.{Output, line, output}
+use Rattle.cyp_top.specs.Lines.{Output, line, output}
 use Rattle.cyp_top.specs.declared.status.Status.TheVariants.{Refused}
 
 -- the expansions, nodes and depth of a report, as comments

@@ -8,7 +8,7 @@ use Rattle.cyp_search.specs.Reports.{PlainReport, report}
 use Rattle.cyp_text.specs.Reading.{IsReading}
 use Rattle.cyp_text.specs.Specifications.{Specification}
 use Rattle.cyp_step.specs.declared.rule.Rule.{Rule}
-use Rattle.cyp_top.specs.Output.{Output, verdict_output}
+use Rattle.cyp_top.specs.Lines.{Output, verdict_output}
 use Rattle.cyp_top.specs.Reports.{fault_name, followed_by, refused_at, stats_if}
 use Rattle.cyp_tree.specs.Trees.{Moving}
 use Rattle.cyp_words.specs.Words.{Search}

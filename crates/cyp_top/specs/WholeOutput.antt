@@ -1,7 +1,7 @@
 -- What the program is to write and answer for words and bytes, once all of it is built.
 use Rattle.std.specs.Prelude.{List, None, Option, Some, ◌≡◌, ℕ}
 use Rattle.cyp_top.specs.Chain.{gen_output}
-use Rattle.cyp_top.specs.Output.{Output, words_refused}
+use Rattle.cyp_top.specs.Lines.{Output, words_refused}
 use Rattle.cyp_top.specs.RunOutput.{IsInputOutput}
 use Rattle.cyp_top.specs.Synthesis.{IsSpecOutput}
 use Rattle.cyp_words.specs.Words.{Command, Gen, RunOn, Synth, command_of}

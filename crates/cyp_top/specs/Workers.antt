@@ -1,6 +1,6 @@
 -- The number of workers is no part of the output.
 use Rattle.std.specs.Prelude.{List, Some, ◌≡◌, ℕ}
-use Rattle.cyp_top.specs.Output.{Output}
+use Rattle.cyp_top.specs.Lines.{Output}
 use Rattle.cyp_top.specs.WholeOutput.{IsWholeOutput}
 use Rattle.cyp_words.specs.Words.{Search, Synth, command_of}
 

@@ -1,21 +1,23 @@
-ghost use Rattle.std.specs.Prelude.{◌≡◌, ◌≢◌, ◌≤◌, IfOk, length};
+ghost use Rattle.std.specs.Prelude.{◌≡◌, ◌≢◌, IfOk};
 ghost use Rattle.cyp_search.specs.PlainReports.{plain_report, plain_verdict};
 ghost use Rattle.cyp_top.specs.Given.{IsFoundVerdict, plain_answer};
 ghost use Rattle.cyp_top.specs.Answers.{IsSaid};
-ghost use Rattle.cyp_top.specs.Output.{IsSynthOutput, goal_space, verdict_output};
+ghost use Rattle.cyp_top.specs.Lines.{verdict_output};
+ghost use Rattle.cyp_top.specs.Output.{IsSynthOutput, goal_space, specification_output};
 ghost use Rattle.cyp_search.specs.Reports.{report};
 ghost use Rattle.cyp_top.specs.declared.status.Status.TheVariants.{Usage};
 
+use crate::refusal::refusal;
 use crate::status::Status;
-use cyp_cell_goal::root_of_text;
+use cyp_cell_goal::root_of_spec;
 use cyp_cell_moves::CellsSpace;
 use cyp_cell_print::program_text;
-use cyp_cell_text::read_flat;
 use cyp_cells::CellsNode;
 use cyp_search::search;
 use cyp_space::{Report, Settings, Verdict};
+use cyp_spec::{Spec, read_spec};
 use cyp_step::Rule;
-use cyp_term::{NoMemory, Shared, Text};
+use cyp_term::{Fail, NoMemory, Shared, Text};
 use std::alloc::Global;
 
 /// What is said of a text.
@@ -27,8 +29,8 @@ pub(crate) enum Answer {
     NoProgram,
     /// The search came to one of its limits.
     Spent,
-    /// It is no flat text within the limits.
-    Refused,
+    /// The line of the text's fault.
+    Refused(Text),
 }
 
 impl Answer {
@@ -40,7 +42,7 @@ impl Answer {
             Answer::Program(text) => text.as_slice(),
             Answer::NoProgram => b"no program\n",
             Answer::Spent => b"budget spent\n",
-            Answer::Refused => b"refused: NotBuilt at 0\n",
+            Answer::Refused(text) => text.as_slice(),
         }
     }
 
@@ -53,7 +55,7 @@ impl Answer {
             Answer::Program(_) => Status::Program,
             Answer::NoProgram => Status::NoProgram,
             Answer::Spent => Status::Spent,
-            Answer::Refused => Status::Refused,
+            Answer::Refused(_) => Status::Refused,
         }
     }
 }
@@ -86,17 +88,25 @@ fn verdict_answer(
     }
 }
 
-/// What is said of a text.
-pub(crate) fn synth_answer(alloc: Global, bytes: &[u8]) -> Result<Answer, NoMemory>
-    requires { length bytes.now ≤ 65536 }
-    ensures { IfOk result (λ a. IsSynthOutput bytes.now (plain_answer a)) }
+/// What is said of a specification.
+fn specification_answer(alloc: Global, spec: &Spec) -> Result<Answer, NoMemory>
+    ensures { IfOk result (λ a. plain_answer a ≡ specification_output spec.now) }
 {
-    let Some(text) = read_flat(alloc, bytes)? else {
-        return Ok(Answer::Refused);
-    };
-    let Some(root) = root_of_text(alloc, &text)? else {
-        return Ok(Answer::Refused);
+    let Some(root) = root_of_spec(alloc, spec)? else {
+        return Ok(Answer::NoProgram);
     };
     let report = report_of(alloc, root)?;
-    verdict_answer(alloc, &text.name, &report.verdict)
+    verdict_answer(alloc, spec.name(), &report.verdict)
+}
+
+/// What is said of a text.
+#[tactic(auto, using(crate::proofs::Outputs::is_read, crate::proofs::Outputs::is_refused))]
+pub(crate) fn synth_answer(alloc: Global, bytes: &[u8]) -> Result<Answer, NoMemory>
+    ensures { IfOk result (λ a. IsSynthOutput bytes.now (plain_answer a)) }
+{
+    match read_spec(alloc, bytes) {
+        Ok(spec) => specification_answer(alloc, &spec),
+        Err(Fail::Named(fault)) => Ok(Answer::Refused(refusal(alloc, &fault)?)),
+        Err(Fail::NoMemory) => Err(NoMemory),
+    }
 }

@@ -3,6 +3,7 @@
 
 mod answer;
 mod laws;
+mod refusal;
 mod run;
 mod status;
 #[cfg(test)]

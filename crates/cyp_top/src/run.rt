@@ -1,6 +1,7 @@
 ghost use Rattle.std.specs.Prelude.{◌≡◌, ◌≢◌, ◌⊎◌, List, map, string_bytes, false, true, ℕ};
 ghost use Rattle.cyp_top.specs.Answers.{Answers, IsSaid, Sends};
-ghost use Rattle.cyp_top.specs.Output.{IsOutput, Output, is_synth};
+ghost use Rattle.cyp_top.specs.Lines.{Output};
+ghost use Rattle.cyp_top.specs.Output.{IsOutput, is_synth};
 ghost use Rattle.cyp_top.specs.declared.status.Status.TheVariants.{Usage, WriteFault};
 
 use crate::answer::synth_answer;
@@ -10,7 +11,7 @@ use cyp_term::Steps;
 use std::alloc::Global;
 use std::sync::ledger::Ledger;
 
-/// The most bytes of a text.
+/// The most bytes of a text that is read.
 const LONGEST_TEXT: usize = 65_536;
 
 fn is_synth(words: &[String]) -> bool
@@ -47,7 +48,7 @@ fn synthesise<S: Source, K: Sink>(alloc: Global, source: &mut S, sink: &mut K) -
     match read_all(alloc, source, LONGEST_TEXT) {
         Err(_) => Status::NoMemory,
         Ok(Reading::Failed) => Status::ReadFault,
-        Ok(Reading::Long) => send(sink, b"refused: NotBuilt at 0\n", Status::Refused),
+        Ok(Reading::Long) => send(sink, b"refused: TooLong at 65536\n", Status::Refused),
         Ok(Reading::Whole(text)) => match synth_answer(alloc, text.as_slice()) {
             Err(_) => Status::NoMemory,
             Ok(answer) => send(sink, answer.text(), answer.status()),

@@ -1,10 +1,10 @@
-ghost use Rattle.std.specs.Prelude.{◌≡◌, ◌<◌, ◌≤◌, length};
+ghost use Rattle.std.specs.Prelude.{◌≡◌, ◌<◌};
 
 use crate::answer::report_of;
 use crate::{Status, run_still};
-use cyp_cell_goal::root_of_text;
-use cyp_cell_text::read_flat;
+use cyp_cell_goal::root_of_spec;
 use cyp_io::{MemSink, MemSource};
+use cyp_spec::read_spec;
 use cyp_term::{List, NoMemory, Steps};
 use std::alloc::Global;
 use std::marker::Brand;
@@ -17,8 +17,6 @@ const SWAPPED: &[u8] =
     b"void swap(v1, v2) {\n  let v3 = *v1;\n  let v4 = *v2;\n  *v1 = v4;\n  *v2 = v3;\n}\n";
 
 const CONSTANT: &[u8] = b"void f(loc x) { x :-> a } { x :-> 5 }";
-
-const REFUSED: &[u8] = b"refused: NotBuilt at 0\n";
 
 /// How a run ended, and what it wrote.
 #[derive(Debug, Drop, PartialEq, Eq)]
@@ -86,48 +84,265 @@ fn synth(alloc: Global, text: &[u8]) -> Result<Ran, NoMemory> {
     run(alloc, &["synth"], text, 64, &[], &[])
 }
 
+/// Texts, with what is written for them and how the run ends.
+const ROWS: &[(&[u8], &[u8], Status)] = &[
+    // Flat texts.
+    (CONSTANT, b"void f(v1) {\n  *v1 = 5;\n}\n", Status::Program),
+    (SWAP, SWAPPED, Status::Program),
+    (
+        b"void f(loc x) { x :-> a } { x :-> - 5 }",
+        b"void f(v1) {\n  *v1 = -5;\n}\n",
+        Status::Program,
+    ),
+    (
+        b"void f(loc x) { emp } { x :-> 1 }",
+        b"no program\n",
+        Status::NoProgram,
+    ),
+    (
+        b"void f(loc x) { x :-> 1 ** x :-> 2 } { emp }",
+        b"void f(v1) {\n  error;\n}\n",
+        Status::Program,
+    ),
+    (
+        b"void f() { emp } { emp } //\xff",
+        b"void f() {\n}\n",
+        Status::Program,
+    ),
+    (
+        b"void v1() { emp } { emp }",
+        b"void v1_0() {\n}\n",
+        Status::Program,
+    ),
+    (
+        b"predicate p() { | 0 == 0 => { emp } } void f() { true ; emp } { emp }",
+        b"void f() {\n}\n",
+        Status::Program,
+    ),
+    // Texts that are read but not flat.
+    (
+        b"void f(int n, int m) { n == m + 2147483648 ; emp } { emp }",
+        b"no program\n",
+        Status::NoProgram,
+    ),
+    (
+        b"void f(loc x) { [x, 1] ** x :-> a } { emp }",
+        b"no program\n",
+        Status::NoProgram,
+    ),
+    (
+        b"void f(int n) { emp } { n <= e ; emp }",
+        b"no program\n",
+        Status::NoProgram,
+    ),
+    (
+        b"predicate p() { | 0 == 0 => { emp } } void f() { p() } { emp }",
+        b"no program\n",
+        Status::NoProgram,
+    ),
+    (
+        b"void f(loc x) { x :-> a + 1 } { emp }",
+        b"no program\n",
+        Status::NoProgram,
+    ),
+    (
+        b"void f(loc x) { emp } { (x + 1) :-> 0 }",
+        b"no program\n",
+        Status::NoProgram,
+    ),
+    (
+        b"void f(loc x) { x <=in1 ; emp } { emp }",
+        b"no program\n",
+        Status::NoProgram,
+    ),
+    // Bytes and numbers that are refused.
+    (b"", b"refused: MissingProcedure at 0\n", Status::Refused),
+    (
+        b"void f(loc x) { x :-> $ } { emp }",
+        b"refused: BadByte at 22\n",
+        Status::Refused,
+    ),
+    (
+        b"void f(loc x) { s =i2 ; emp } { emp }",
+        b"refused: BadByte at 18\n",
+        Status::Refused,
+    ),
+    (
+        b"void f(int n, int m) { n == m + 2147483649 ; emp } { emp }",
+        b"refused: NumberRange at 32\n",
+        Status::Refused,
+    ),
+    // Texts of no grammar.
+    (b"voi", b"refused: Expected at 0\n", Status::Refused),
+    (b"void", b"refused: Expected at 4\n", Status::Refused),
+    (
+        b"void swap(l",
+        b"refused: Expected at 10\n",
+        Status::Refused,
+    ),
+    (
+        b"void swap(loc x, loc y) { x :",
+        b"refused: BadByte at 28\n",
+        Status::Refused,
+    ),
+    (
+        b"void swap(loc x, loc y) { x :-> a",
+        b"refused: Expected at 33\n",
+        Status::Refused,
+    ),
+    (
+        b"void swap(loc x, loc y) { x :-> a *",
+        b"refused: BadByte at 34\n",
+        Status::Refused,
+    ),
+    (
+        b"void swap(loc x, loc y) { x :-> a ** y :-> b } { x :-> b ** y :-> a ",
+        b"refused: Expected at 68\n",
+        Status::Refused,
+    ),
+    (
+        b"void f(loc x) { x :-> a",
+        b"refused: Expected at 23\n",
+        Status::Refused,
+    ),
+    (b"if", b"refused: Expected at 0\n", Status::Refused),
+    (
+        b"void f() { 12ab == 1 ; emp } { emp }",
+        b"refused: Expected at 13\n",
+        Status::Refused,
+    ),
+    (
+        b"void f(loc x) { x + if == 1 ; emp } { emp }",
+        b"refused: Expected at 20\n",
+        Status::Refused,
+    ),
+    (
+        b"void f() { {1} ++ s - 1 =i s ; emp } { emp }",
+        b"refused: Expected at 20\n",
+        Status::Refused,
+    ),
+    (
+        b"void f(loc x) { [x, 1 - 1] } { emp }",
+        b"refused: Expected at 22\n",
+        Status::Refused,
+    ),
+    (
+        b"void f(loc x) { x <=i ; emp } { emp }",
+        b"refused: Expected at 22\n",
+        Status::Refused,
+    ),
+    (
+        b"void f(loc x) { 1 + if == 1 ; emp } { emp }",
+        b"refused: ReservedName at 20\n",
+        Status::Refused,
+    ),
+    (
+        b"void void() { emp } { emp }",
+        b"refused: ReservedName at 5\n",
+        Status::Refused,
+    ),
+    (
+        b"predicate p(loc x) { | true => { emp } } void f() { emp } { emp }",
+        b"refused: ReservedName at 23\n",
+        Status::Refused,
+    ),
+    (
+        b"void f(loc x) { x + y == 1 ; emp } { emp }",
+        b"refused: NotDifference at 20\n",
+        Status::Refused,
+    ),
+    // Names and sorts that are refused.
+    (
+        b"void f(loc x, loc x) { emp } { emp }",
+        b"refused: DuplicateName at 18\n",
+        Status::Refused,
+    ),
+    (
+        b"predicate p() { | 0 == 0 => { emp } } predicate p() { | 0 == 0 => { emp } } void f() { emp } { emp }",
+        b"refused: DuplicateName at 48\n",
+        Status::Refused,
+    ),
+    (
+        b"void f(loc x) { p(x) } { emp }",
+        b"refused: UnknownPredicate at 16\n",
+        Status::Refused,
+    ),
+    (
+        b"predicate p(loc x) { | x == 0 => { emp } } void f() { p() } { emp }",
+        b"refused: WrongArity at 54\n",
+        Status::Refused,
+    ),
+    (
+        b"void f(loc x) { x in x ; emp } { emp }",
+        b"refused: WrongSort at 21\n",
+        Status::Refused,
+    ),
+    (
+        b"void f(set s) { emp } { emp }",
+        b"refused: WrongSort at 7\n",
+        Status::Refused,
+    ),
+    (
+        b"predicate p(set s) { | not (0 in s) => { emp } } void f() { emp } { emp }",
+        b"refused: WrongSort at 23\n",
+        Status::Refused,
+    ),
+    (
+        b"predicate p(set a) { | 0 == 0 => { emp } } void f() { x :-> s ** p(s) } { emp }",
+        b"refused: WrongSort at 67\n",
+        Status::Refused,
+    ),
+    (
+        b"predicate p(loc x) { | y == 0 => { emp } } void f() { emp } { emp }",
+        b"refused: UnboundVariable at 23\n",
+        Status::Refused,
+    ),
+    // Predicates and limits that are refused.
+    (
+        b"predicate p(loc x) { | x <= 0 => { emp } | x == 0 => { emp } } void f(loc x) { emp } { emp }",
+        b"refused: GuardsOverlap at 43\n",
+        Status::Refused,
+    ),
+    (
+        b"predicate p(loc x) { | x == 0 => { emp } | x != 0 => { p(x) } } void f(loc x) { emp } { emp }",
+        b"refused: Unproductive at 41\n",
+        Status::Refused,
+    ),
+    (
+        b"void f(loc x) { [x, 9] } { emp }",
+        b"refused: TooLarge at 20\n",
+        Status::Refused,
+    ),
+    (
+        b"void f(int a, int b, int c, int d, int e, int g, int h, int i, int j, int k, int l, int m, int n) { [a, 9] } { emp }",
+        b"refused: TooLarge at 5\n",
+        Status::Refused,
+    ),
+];
+
 #[test]
-fn flat_texts_are_answered(rt: HostRuntime) -> Result<(), Fail> {
+fn each_text_has_its_answer(rt: HostRuntime) -> Result<(), Fail> {
     let alloc = rt.alloc();
-    let constant = ending(alloc, Status::Program, b"void f(v1) {\n  *v1 = 5;\n}\n")?;
-    assert_eq!(rt; synth(alloc, CONSTANT)?, constant);
-    assert_eq!(rt;
-        synth(alloc, SWAP)?,
-        ending(alloc, Status::Program, SWAPPED)?
-    );
-    let none = ending(alloc, Status::NoProgram, b"no program\n")?;
-    assert_eq!(rt; synth(alloc, b"void f(loc x) { emp } { x :-> 1 }")?, none);
-    let wrong = ending(alloc, Status::Program, b"void f(v1) {\n  error;\n}\n")?;
-    assert_eq!(rt;
-        synth(alloc, b"void f(loc x) { x :-> 1 ** x :-> 2 } { emp }")?,
-        wrong
-    );
-    let empty = ending(alloc, Status::Program, b"void v1_0() {\n}\n")?;
-    assert_eq!(rt; synth(alloc, b"void v1() { emp } { emp }")?, empty);
+    for row in ROWS {
+        let (text, line, status) = *row;
+        let said = ending(alloc, status, line)?;
+        assert_eq!(rt; synth(alloc, text)?, said);
+    }
     Ok(())
 }
 
 #[test]
-fn other_texts_are_refused(rt: HostRuntime) -> Result<(), Fail> {
+fn a_text_of_the_greatest_length_is_read_and_a_longer_one_is_not(
+    rt: HostRuntime,
+) -> Result<(), Fail> {
     let alloc = rt.alloc();
-    let refused = ending(alloc, Status::Refused, REFUSED)?;
-    assert_eq!(rt; synth(alloc, b"")?, refused);
-    assert_eq!(rt;
-        synth(alloc, b"void f(loc x) { x :-> $ } { emp }")?,
-        refused
-    );
-    assert_eq!(rt; synth(alloc, b"void f(loc x) { x :-> 1 } { emp")?, refused);
-    assert_eq!(rt; synth(alloc, b"void if(loc x) { emp } { emp }")?, refused);
-    assert_eq!(rt;
-        synth(alloc, b"void f(loc x, loc x) { emp } { emp }")?,
-        refused
-    );
-    assert_eq!(rt;
-        synth(alloc, b"void f(loc x) { x :-> 2147483649 } { emp }")?,
-        refused
-    );
-    let long = [b' '; 65_537];
-    assert_eq!(rt; run(alloc, &["synth"], &long, 4096, &[], &[])?, refused);
+    let mut text = [b' '; 65_537];
+    text[..CONSTANT.len()].copy_from_slice(CONSTANT);
+    let read = run(alloc, &["synth"], &text[..65_536], 4096, &[], &[])?;
+    let written = ending(alloc, Status::Program, b"void f(v1) {\n  *v1 = 5;\n}\n")?;
+    assert_eq!(rt; read, written);
+    let refused = ending(alloc, Status::Refused, b"refused: TooLong at 65536\n")?;
+    assert_eq!(rt; run(alloc, &["synth"], &text, 4096, &[], &[])?, refused);
     Ok(())
 }
 
@@ -177,13 +392,11 @@ fn words_and_faults_have_their_answers(rt: HostRuntime) -> Result<(), Fail> {
 }
 
 /// How many leaves the search from the text's root expands, where the text is flat.
-fn expansions(alloc: Global, text: &[u8]) -> Result<Option<u32>, NoMemory>
-    requires { length text.now ≤ 65536 }
-{
-    let Some(text) = read_flat(alloc, text)? else {
+fn expansions(alloc: Global, text: &[u8]) -> Result<Option<u32>, NoMemory> {
+    let Ok(spec) = read_spec(alloc, text) else {
         return Ok(None);
     };
-    let Some(root) = root_of_text(alloc, &text)? else {
+    let Some(root) = root_of_spec(alloc, &spec)? else {
         return Ok(None);
     };
     Ok(Some(report_of(alloc, root)?.expansions))

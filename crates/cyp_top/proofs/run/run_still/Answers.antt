@@ -1,6 +1,6 @@
 use Rattle.std.proofs.Common.{◌∙◌, false, refl, subst, sym}
 use Rattle.cyp_top.specs.Answers.{Answers, End}
-use Rattle.cyp_top.specs.Output.{words_refused}
+use Rattle.cyp_top.specs.Lines.{words_refused}
 use Rattle.cyp_top.proofs.Sending.{sends_answer, unheard}
 use Rattle.cyp_top.proofs.run.run_still.Goals as goal
 

@@ -2,8 +2,8 @@ use Rattle.std.proofs.Common.{Some, ap, length, subst, sym, true, ◌∙◌, ◌
 use Rattle.std.proofs.lemmas.Option.{IfSome_then}
 use Rattle.cyp_io.specs.Whole.{ReadingCounts, ReadsAll}
 use Rattle.cyp_top.specs.Given.{plain_answer}
-use Rattle.cyp_top.specs.Output.{IsSynthOutput, not_built}
-use Rattle.cyp_top.proofs.Sending.{all_read, sends_answer, too_long}
+use Rattle.cyp_top.specs.Output.{IsSynthOutput}
+use Rattle.cyp_top.proofs.Sending.{all_read, long_refused, sends_answer, too_long}
 use Rattle.cyp_top.proofs.run.synthesise.Goals as goal
 
 pub returns-in-Ok-Long-clause-answer : goal.returns-in-Ok-Long-clause-answer
@@ -16,7 +16,7 @@ returns-in-Ok-Long-clause-answer g c =
     sends_answer true (record { told = left; faults = faults }) (record { told = left'; faults = faults' })
     (record { told = g.K.Sink.taken c.args.sink.now; faults = g.K.Sink.faults c.args.sink.now })
     (record { told = g.K.Sink.taken c.send.new.sink; faults = g.K.Sink.faults c.send.new.sink })
-    not_built c.send.result (subst (ReadingCounts faults faults') c.in-Ok-Long.field-0-is c.in-Ok-Long.ensures.cause)
+    long_refused c.send.result (subst (ReadingCounts faults faults') c.in-Ok-Long.field-0-is c.in-Ok-Long.ensures.cause)
     (IfSome_then left read (λ bytes h. (h.1, too_long bytes h.0))) tt c.send.ensures
 
 pub returns-clause-answer : goal.returns-clause-answer

@@ -1,9 +1,0 @@
-pub mod Apart
-pub mod Cells
-pub mod Exactness
-pub mod Flats
-pub mod Heaps
-pub mod Listed
-pub mod OneTree
-pub mod Parts
-pub mod Rows

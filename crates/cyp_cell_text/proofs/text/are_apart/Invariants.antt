@@ -1,6 +1,0 @@
-use Rattle.std.proofs.Common.{◌≢◌, take}
-use Rattle.std.specs.List.{AllPairs}
-use Rattle.cyp_cell_text.proofs.text.are_apart.Given as goal
-
-abbrev pub invariant-loop-i : goal.invariant-loop-i
-invariant-loop-i l = AllPairs (λ a b. a.name ≢ b.name) (take l.i l.params)

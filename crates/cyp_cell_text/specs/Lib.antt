@@ -1,4 +1,0 @@
-pub mod Exact
-pub mod FlatText
-pub mod Lexemes
-pub mod Reading

@@ -1,0 +1,10 @@
+use Rattle.std.proofs.Common.{◌≡◌, drop, map}
+use Rattle.cyp_names.specs.LeastFaults.{lesser_of}
+use Rattle.cyp_text.specs.NameFaults.{arg_faults}
+use Rattle.cyp_text.specs.Reading.{least_fault}
+use Rattle.cyp_text.specs.Uses.{param_sort}
+use Rattle.cyp_names.proofs.instances.args_fault.Given as goal
+
+abbrev pub invariant-loop-place : goal.invariant-loop-place
+invariant-loop-place l =
+    lesser_of l.found (least_fault (arg_faults (map param_sort (drop l.place l.params)) (drop l.place l.args))) ≡ least_fault (arg_faults (map param_sort l.params) l.args)

@@ -1,0 +1,3 @@
+pub mod LeastFaults
+pub mod Orders
+pub mod Places

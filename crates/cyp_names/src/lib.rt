@@ -1,0 +1,25 @@
+//! The names of a specification's text: where they stand for variables, and their faults.
+#![tactic(auto)]
+
+mod body_uses;
+mod clauses;
+mod instances;
+mod least;
+mod name_faults;
+mod places;
+mod predicates;
+mod repeats;
+mod scope;
+mod scopes;
+mod sorts;
+mod uses;
+
+pub use least::lesser;
+pub use name_faults::name_fault;
+pub use predicates::{param_sort, params_of, pred_named, pred_place};
+pub use scope::Scope;
+pub use scopes::{clause_scope, goal_scope, universal_scope};
+pub use uses::{NamedUse, Order};
+
+#[cfg(test)]
+mod tests;

@@ -1,0 +1,133 @@
+ghost use Rattle.std.specs.Prelude.{IfOk, OnErr, OnOk, [], length, ◌<◌, ◌∷◌, ◌++◌, ◌≡◌, ◌≤◌};
+ghost use Rattle.std.specs.List.{list_any};
+ghost use Rattle.std.specs.Str.{bytes_eq};
+ghost use Rattle.cyp_term.specs.Terms.{sort_eq, with_all_new, with_new, without_repeats};
+ghost use Rattle.cyp_text.specs.ReadTerms.{rank_of, sort_in, var_named};
+ghost use Rattle.cyp_text.specs.Specifications.{count_sort};
+ghost use Rattle.cyp_text.specs.Uses.{same_name};
+
+use crate::uses::NamedUse;
+use cyp_term::{NoMemory, Sort, Text, Var};
+use std::alloc::Global;
+use std::marker::Model;
+
+/// Different names with their sorts, in the order of their first occurrence.
+#[derive(Drop)]
+pub struct Scope<'a> {
+    uses: Vec<NamedUse<'a>>,
+}
+
+impl<'a> Model for Scope<'a> {
+    ghost use Rattle.cyp_text.specs.ReadTerms.{Scope};
+
+    ghost Value = { Scope };
+
+    ghost view = { λ s. s.uses.items };
+}
+
+/// Whether both are the same name.
+fn is_name(a: &Text, b: &Text) -> bool
+    ensures { result ≡ bytes_eq a.now b.now }
+{
+    *a == *b
+}
+
+impl<'a> Scope<'a> {
+    /// A scope without names.
+    pub fn new(alloc: Global) -> Scope<'a>
+        ensures { result ≡ [] }
+    {
+        Scope {
+            uses: Vec::new(alloc),
+        }
+    }
+
+    /// How many names there are.
+    pub fn len(&self) -> usize
+        ensures { result ≡ length self.now }
+    {
+        self.uses.len()
+    }
+
+    /// The names with their sorts.
+    pub fn uses(&self) -> &[NamedUse<'a>]
+        ensures { result.now ≡ self.now }
+    {
+        self.uses.as_slice()
+    }
+
+    /// Whether there is such a name.
+    fn has(&self, name: &NamedUse<'_>) -> bool
+        ensures { result ≡ list_any (same_name name.now) self.now }
+    {
+        self.uses
+            .iter()
+            .any(|other| is_name(&name.name().text, &other.name().text))
+    }
+
+    /// Adds a name that isn't there yet.
+    pub fn add(&mut self, name: NamedUse<'a>) -> Result<(), NoMemory>
+        ensures { OnOk result (self.new ≡ with_new same_name self.old name.entry) }
+    {
+        if !self.has(&name) {
+            self.uses.push(name)?;
+        }
+        Ok(())
+    }
+
+    /// Adds each name that isn't there yet.
+    pub fn add_all(&mut self, names: Vec<NamedUse<'a>>) -> Result<(), NoMemory>
+        ensures { OnOk result (self.new ≡ with_all_new same_name self.old names.entry.items) }
+    {
+        for name in names {
+            self.add(name)?;
+        }
+        Ok(())
+    }
+
+    /// How many names there are of the sort.
+    pub fn count(&self, sort: Sort) -> usize
+        ensures { result ≡ count_sort sort self.now }
+    {
+        self.uses.iter().filter(|u| u.sort() == sort).count()
+    }
+
+    /// The sort of the name; an integer, where there is no such name.
+    pub fn sort_of(&self, name: &Text) -> Sort
+        ensures { result ≡ sort_in self.now name.now }
+    {
+        for other in self.uses.as_slice() {
+            if is_name(&other.name().text, name) {
+                return other.sort();
+            }
+        }
+        Sort::Int
+    }
+
+    /// How many names of the sort stand before this one.
+    fn rank(&self, sort: Sort, name: &Text) -> usize
+        ensures within { result ≤ length self.now }
+        ensures rank { result ≡ rank_of sort self.now name.now }
+    {
+        let mut rank = 0;
+        for other in self.uses.as_slice() {
+            if is_name(&other.name().text, name) {
+                return rank;
+            }
+            if other.sort() == sort {
+                rank += 1;
+            }
+        }
+        rank
+    }
+
+    /// The variable of the name. Each sort is numbered from 0.
+    pub fn var_named(&self, name: &Text) -> Var
+        requires { length self.now ≤ 255 }
+        ensures { result ≡ var_named self.now name.now }
+    {
+        let sort = self.sort_of(name);
+        let number = self.rank(sort, name) as u8;
+        Var { sort, number }
+    }
+}

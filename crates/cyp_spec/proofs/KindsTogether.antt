@@ -1,0 +1,59 @@
+-- Chunks by their kinds are the same chunks.
+use Rattle.std.proofs.Common.{◌≡◌, ◌∙◌, [], ◌∷◌, ◌++◌, List, Bool, true, false, cond, filter, flat_map, length, ◌+◌, ℕ, refl, ap, ap₂, append-nil, sym, arith}
+use Rattle.std.proofs.lemmas.Grind.{flat_map-append}
+use Rattle.std.proofs.lemmas.List.{length-append}
+use Rattle.cyp_term.proofs.Lists.{Among, Among-left, Among-right, filter_in}
+use Rattle.cyp_text.specs.Bodies.{in_kinds, is_block, is_cell, is_instance}
+use Rattle.cyp_text.specs.declared.tree.ChunkTree.{ChunkTree}
+use Rattle.cyp_text.specs.declared.tree.ChunkTree.TheVariants.{BlockOf, InstanceOf, NamedCell, TermCell}
+
+three_kinds : (cs : List ChunkTree) → length (filter is_instance cs) + length (filter is_block cs) + length (filter is_cell cs) ≡ length cs
+three_kinds [] = omega arith
+three_kinds (InstanceOf i xs ∷ cs) = omega (arith, three_kinds cs)
+three_kinds (BlockOf a p n ∷ cs) = omega (arith, three_kinds cs)
+three_kinds (NamedCell i t ∷ cs) = omega (arith, three_kinds cs)
+three_kinds (TermCell a t ∷ cs) = omega (arith, three_kinds cs)
+
+pub length-in_kinds : (cs : List ChunkTree) → length (in_kinds cs) ≡ length cs
+length-in_kinds cs =
+    omega (arith, length-append (filter is_instance cs ++ filter is_block cs) (filter is_cell cs), length-append (filter is_instance cs) (filter is_block cs), three_kinds cs)
+
+-- ---- what instances alone have
+
+module _ {A : Type 0} (f : ChunkTree → List A) where
+  -- blocks and cells have none
+  pub record InstancesAlone : Type 0 where
+    pub blocks : (c : ChunkTree) → is_block c ≡ true → f c ≡ []
+    pub cells : (c : ChunkTree) → is_cell c ≡ true → f c ≡ []
+
+  none_of : (test : ChunkTree → Bool) → ((c : ChunkTree) → test c ≡ true → f c ≡ []) → (cs : List ChunkTree) → flat_map f (filter test cs) ≡ []
+  none_of test h [] = refl
+  none_of test h (c ∷ cs) = by_test (test c) (h c) (none_of test h cs)
+    where
+      by_test : (b : Bool) → (b ≡ true → f c ≡ []) → flat_map f (filter test cs) ≡ [] → flat_map f (cond b (c ∷ filter test cs) (filter test cs)) ≡ []
+      by_test false k rest = rest
+      by_test true k rest = ap₂ ◌++◌ (k refl) rest
+
+  module _ (alone : InstancesAlone) where
+    instances_are_all : (cs : List ChunkTree) → flat_map f (filter is_instance cs) ≡ flat_map f cs
+    instances_are_all [] = refl
+    instances_are_all (InstanceOf i xs ∷ cs) = ap (λ (us : List A). f (InstanceOf i xs) ++ us) (instances_are_all cs)
+    instances_are_all (BlockOf a p n ∷ cs) = instances_are_all cs ∙ ap (λ (us : List A). us ++ flat_map f cs) (sym (alone.blocks (BlockOf a p n) refl))
+    instances_are_all (NamedCell i t ∷ cs) = instances_are_all cs ∙ ap (λ (us : List A). us ++ flat_map f cs) (sym (alone.cells (NamedCell i t) refl))
+    instances_are_all (TermCell a t ∷ cs) = instances_are_all cs ∙ ap (λ (us : List A). us ++ flat_map f cs) (sym (alone.cells (TermCell a t) refl))
+
+    pub flat_map-in_kinds : (cs : List ChunkTree) → flat_map f (in_kinds cs) ≡ flat_map f cs
+    flat_map-in_kinds cs =
+        flat_map-append f (filter is_instance cs ++ filter is_block cs) (filter is_cell cs)
+        ∙ ap₂ ◌++◌ (flat_map-append f (filter is_instance cs) (filter is_block cs)) (none_of is_cell alone.cells cs)
+        ∙ append-nil (flat_map f (filter is_instance cs) ++ flat_map f (filter is_block cs))
+        ∙ ap (λ (us : List A). flat_map f (filter is_instance cs) ++ us) (none_of is_block alone.blocks cs)
+        ∙ append-nil (flat_map f (filter is_instance cs))
+        ∙ instances_are_all cs
+
+-- each chunk is of a kind
+pub in_a_kind : (c : ChunkTree) (cs : List ChunkTree) → Among c cs → Among c (in_kinds cs)
+in_a_kind (InstanceOf i xs) cs m = Among-left _ (filter is_instance cs ++ filter is_block cs) (filter is_cell cs) (Among-left _ (filter is_instance cs) (filter is_block cs) (filter_in is_instance (InstanceOf i xs) cs m refl))
+in_a_kind (BlockOf a p n) cs m = Among-left _ (filter is_instance cs ++ filter is_block cs) (filter is_cell cs) (Among-right _ (filter is_instance cs) (filter is_block cs) (filter_in is_block (BlockOf a p n) cs m refl))
+in_a_kind (NamedCell i t) cs m = Among-right _ (filter is_instance cs ++ filter is_block cs) (filter is_cell cs) (filter_in is_cell (NamedCell i t) cs m refl)
+in_a_kind (TermCell a t) cs m = Among-right _ (filter is_instance cs ++ filter is_block cs) (filter is_cell cs) (filter_in is_cell (TermCell a t) cs m refl)

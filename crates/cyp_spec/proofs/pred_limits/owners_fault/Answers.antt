@@ -1,0 +1,10 @@
+use Rattle.std.proofs.Common.{◌∙◌, ap}
+use Rattle.cyp_spec.proofs.LeastFaults.{least-append, least_turn}
+use Rattle.cyp_spec.specs.LesserFault.{lesser_of}
+use Rattle.cyp_text.specs.LimitFaults.{unproductive_fault}
+use Rattle.cyp_spec.proofs.pred_limits.owners_fault.Goals as goal
+
+pub loop-clause-preserved : goal.loop-clause-preserved
+loop-clause-preserved c =
+    least_turn unproductive_fault c.as_slice-others.result.now c.loop-clause.clause-index c.clause-item.result _ _ _ c.loop-clause-test.true c.clause-item.is
+    (c.lesser-least.ensures ∙ ap (lesser_of c.loop-clause.least) c.owner_fault.ensures) c.loop-clause.invariant
