@@ -17,7 +17,7 @@ use Rattle.cyp_goal.specs.Normal.{Renaming, normal}
 use Rattle.cyp_heap.specs.Limits.{is_goal_within}
 use Rattle.cyp_heap.specs.declared.goal.Goal.{Goal}
 use Rattle.cyp_heap.specs.declared.goal.Node.{Node}
-use Rattle.cyp_spec.specs.KeepsSpec.{KeepsSpec}
+use Rattle.cyp_text.specs.KeepsSpec.{KeepsSpec}
 use Rattle.cyp_text.specs.LimitFaults.{root_of as text_root}
 use Rattle.cyp_text.specs.Specifications.{Specification}
 use Rattle.cyp_cell_goal.specs.FlatGoals.{cells_node, flat_root, is_flat, node_or, root_of}

@@ -24,7 +24,7 @@ pub fn lesser(one: Option<Fault>, other: Option<Fault>) -> Option<Fault>
 }
 
 /// A fault of this kind at this place.
-pub(crate) fn fault(kind: FaultKind, place: u32) -> Option<Fault>
+pub fn fault(kind: FaultKind, place: u32) -> Option<Fault>
     ensures { result ≡ least_fault (fault_at kind place) }
 {
     Some(Fault { kind, place })

@@ -14,7 +14,7 @@ mod scopes;
 mod sorts;
 mod uses;
 
-pub use least::lesser;
+pub use least::{fault, lesser};
 pub use name_faults::name_fault;
 pub use predicates::{param_sort, params_of, pred_named, pred_place};
 pub use scope::Scope;

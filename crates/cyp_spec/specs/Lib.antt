@@ -1,17 +1,1 @@
-pub mod Cards
-pub mod ChunkKinds
-pub mod Elements
-pub mod InOrder
-pub mod InScope
-pub mod Items
-pub mod KeepsSpec
-pub mod LesserFault
-pub mod LimitParts
-pub mod Mended
-pub mod PrintMarks
-pub mod PrintParts
 pub mod ReadSpecs
-pub mod Readable
-pub mod ReadableTexts
-pub mod Small
-pub mod WrittenGoals

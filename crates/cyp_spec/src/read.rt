@@ -1,8 +1,8 @@
 ghost use Rattle.cyp_spec.specs.ReadSpecs.{IsReadSpec};
 
-use crate::spec::Spec;
 use cyp_lex::Fault;
 use cyp_term::Fail;
+use cyp_text::Spec;
 use std::alloc::Global;
 
 /// Stand-in: memory always runs out.

@@ -3,6 +3,7 @@ pub mod BodyReaders
 pub mod ChunkReaders
 pub mod Grammar
 pub mod GrammarFaults
+pub mod KeepsSpec
 pub mod LimitFaults
 pub mod ListReaders
 pub mod LitReaders

@@ -8,6 +8,7 @@ mod lists;
 mod lit_tree;
 mod literals;
 mod parser;
+mod spec;
 mod terms;
 mod texts;
 mod tree;
@@ -19,6 +20,7 @@ pub use laws::{
     what_is_printed_is_read,
 };
 pub use lit_tree::{BaseTree, LitTree};
+pub use spec::Spec;
 pub use tree::{
     ArgTree, BodyTree, ChunkTree, ClauseTree, Comparison, Conjunction, IntTree, ItemTree,
     ParamTree, PartTree, PredTree, PureTree, SetTree, SortTree, TextTree,

@@ -1,0 +1,129 @@
+-- The goal of a text without faults of names, whose predicates are formed: when it can be read, and what is known where it passes a limit.
+use Rattle.std.proofs.Common.{[], ◌≡◌, ◌∙◌, ◌∷◌, ◌++◌, ◌&&◌, ◌⊎◌, List, Bool, true, false, filter, flat_map, length, map, suc, ℕ, ◌+◌, ◌<◌, ◌≤◌, refl, ap, ap₂, sym, subst, inl, inr, arith}
+use Rattle.std.specs.Prelude.{nat_le}
+use Rattle.std.specs.List.{All}
+use Rattle.std.proofs.lemmas.Bool.{lt-leb}
+use Rattle.std.proofs.lemmas.List.{length-map}
+use Rattle.cyp_goal.specs.Dressed.{resized, resized_goal}
+use Rattle.cyp_heap.specs.Chunks.{chunk_vars, chunks_vars}
+use Rattle.cyp_heap.specs.Goals.{goal_vars}
+use Rattle.cyp_heap.specs.Limits.{chunk_elements, goal_elements, is_goal_within}
+use Rattle.cyp_heap.specs.declared.chunk.Chunk.{Chunk}
+use Rattle.cyp_heap.specs.declared.chunk.Chunk.TheVariants.{Block, Cell, Inst}
+use Rattle.cyp_heap.specs.declared.goal.Goal.{Goal}
+use Rattle.cyp_limits.proofs.ClausesReadable.{by_sorts}
+use Rattle.cyp_limits.proofs.ClauseTests.{chunks_count}
+use Rattle.cyp_limits.proofs.GoalsDressed.{clamp, goal_mended}
+use Rattle.cyp_limits.proofs.KindsTogether.{in_a_kind}
+use Rattle.cyp_reading.proofs.SortedRead.{all_by, chunk_readable, pure_readable}
+use Rattle.cyp_reading.specs.Mended.{mended_text}
+use Rattle.cyp_reading.specs.Readable.{BodyReadable, ChunkReadable}
+use Rattle.cyp_reading.specs.ReadableTexts.{GoalReadable}
+use Rattle.cyp_reading.specs.Small.{BodySmall, ChunkSmall, TextSmall}
+use Rattle.cyp_term.proofs.Lists.{Among, Among-left, Among-right, flat_in}
+use Rattle.cyp_term.specs.Terms.{is_set_var, lit_elements, lits_vars, sort_eq, term_eq, var_eq, without_repeats}
+use Rattle.cyp_term.specs.declared.term.Sort.TheVariants.{Int, Set}
+use Rattle.cyp_term.specs.declared.term.Term.{Term}
+use Rattle.cyp_term.specs.declared.term.Var.{Var}
+use Rattle.cyp_text.proofs.FormedScope.{goal_plain}
+use Rattle.cyp_text.proofs.FormedSorts.{name_sort}
+use Rattle.cyp_text.proofs.PrintedGoals.{ok}
+use Rattle.cyp_text.specs.Bodies.{body_lits, in_kinds, kept_body, kept_lit, kept_parts}
+use Rattle.cyp_text.specs.NameFaults.{name_faults}
+use Rattle.cyp_text.specs.ReadTerms.{Scope, read_chunk, read_chunks, sort_in}
+use Rattle.cyp_text.specs.Specifications.{count_sort, goal_scope, read_goal, with_cards}
+use Rattle.cyp_text.specs.Uses.{Use, chunk_uses, param_uses}
+use Rattle.cyp_text.specs.declared.tree.BodyTree.{BodyTree}
+use Rattle.cyp_text.specs.declared.tree.ChunkTree.{ChunkTree}
+use Rattle.cyp_text.specs.declared.tree.PredTree.{PredTree}
+use Rattle.cyp_text.specs.declared.tree.TextTree.{TextTree}
+
+-- ---- a body
+
+module _ (qs : List PredTree) (few : length qs < 256) (sc : Scope) (b : BodyTree) (small : BodySmall b) (sorted : (u : Use) → Among u (kept_body qs b) → sort_in sc u.name.text ≡ u.sort) where
+  abbrev lit_part : List Use
+  lit_part = flat_map (kept_lit false) (body_lits b)
+
+  abbrev chunk_part : List Use
+  chunk_part = flat_map (chunk_uses kept_parts qs) (in_kinds b.chunks)
+
+  body_ready : BodyReadable qs sc b
+  body_ready = record {
+    pure = pure_readable sc b.pure small.pure (λ l m u k. sorted u (Among-left u lit_part chunk_part (flat_in (kept_lit false) u l (body_lits b) m k)));
+    chunks = all_by ChunkSmall (ChunkReadable qs sc) b.chunks (λ c m k.
+        chunk_readable sc qs few c k (λ u n. sorted u (Among-right u lit_part chunk_part (flat_in (chunk_uses kept_parts qs) u c (in_kinds b.chunks) (in_a_kind c b.chunks m) n)))) small.chunks;
+  }
+
+-- ---- other sizes of blocks
+
+vars_resized : (c : Chunk) → chunk_vars (resized clamp c) ≡ chunk_vars c
+vars_resized (Inst i) = refl
+vars_resized (Block k) = refl
+vars_resized (Cell k) = refl
+
+elements_resized : (c : Chunk) → chunk_elements (resized clamp c) ≡ chunk_elements c
+elements_resized (Inst i) = refl
+elements_resized (Block k) = refl
+elements_resized (Cell k) = refl
+
+flat_resized : {A : Type 0} (f : Chunk → List A) → ((c : Chunk) → f (resized clamp c) ≡ f c) → (cs : List Chunk) → flat_map f (map (resized clamp) cs) ≡ flat_map f cs
+flat_resized f e [] = refl
+flat_resized f e (c ∷ cs) = λ i. e c i ++ flat_resized f e cs i
+
+length_resized : (cs : List Chunk) → length (map (resized clamp) cs) ≡ length cs
+length_resized cs = length-map cs (resized clamp)
+
+-- the test of a goal, from what it looks at
+abbrev limit_test : ℕ → ℕ → Goal → List Var → List Term → Bool
+limit_test a b g vs es =
+    let ws : List Var = without_repeats var_eq vs in
+    nat_le a 16 && nat_le b 16 && nat_le (length g.pure_pre) 40 && nat_le (length g.pure_post) 40 && nat_le (length g.program) 12
+    && nat_le (length (filter (λ (v : Var). sort_eq v.sort Int) ws)) 64 && nat_le (length (filter is_set_var ws)) 32 && nat_le (length (without_repeats term_eq es)) 32
+
+within_resized : (g : Goal) → is_goal_within (resized_goal clamp g) ≡ is_goal_within g
+within_resized g = λ i.
+    limit_test (length_resized g.pre.chunks i) (length_resized g.post.chunks i) g
+    (g.program ++ flat_resized chunk_vars vars_resized g.pre.chunks i ++ flat_resized chunk_vars vars_resized g.post.chunks i ++ lits_vars g.pure_pre ++ lits_vars g.pure_post)
+    (flat_map lit_elements g.pure_pre ++ flat_resized chunk_elements elements_resized g.pre.chunks i ++ flat_map lit_elements g.pure_post ++ flat_resized chunk_elements elements_resized g.post.chunks i)
+
+-- ---- the goal of a text
+
+cards_count : (k : ℕ) (cs : List Chunk) → length (with_cards k cs) ≡ length cs
+cards_count k [] = refl
+cards_count k (Inst i ∷ cs) = ap suc (cards_count (suc k) cs)
+cards_count k (Block b ∷ cs) = ap suc (cards_count k cs)
+cards_count k (Cell c ∷ cs) = ap suc (cards_count k cs)
+
+module _ (t : TextTree) where
+  pub within_mended : is_goal_within (read_goal (mended_text t)) ≡ is_goal_within (read_goal t)
+  within_mended = ap is_goal_within (goal_mended t) ∙ within_resized (read_goal t)
+
+  -- too many chunks in the precondition
+  pub many_in_pre : 16 < length t.pre.chunks → is_goal_within (read_goal t) ≡ false
+  many_in_pre h =
+      let g : Goal = read_goal t in
+      let count : length g.pre.chunks ≡ length t.pre.chunks = cards_count 0 (read_chunks t.preds (goal_scope t) t.pre) ∙ chunks_count t.preds (goal_scope t) t.pre.chunks in
+      let fails : nat_le (length g.pre.chunks) 16 ≡ false = lt-leb (length g.pre.chunks) 16 (omega (arith, count, h)) in
+      let ws : List Var = without_repeats var_eq (goal_vars g) in
+      ap (λ (x : Bool). x && nat_le (length g.post.chunks) 16 && nat_le (length g.pure_pre) 40 && nat_le (length g.pure_post) 40 && nat_le (length g.program) 12
+      && nat_le (length (filter (λ (v : Var). sort_eq v.sort Int) ws)) 64 && nat_le (length (filter is_set_var ws)) 32 && nat_le (length (without_repeats term_eq (goal_elements g))) 32) fails
+
+  module _ (right : name_faults t ≡ []) where
+    -- too many names of a sort
+    pub many_names : (64 < count_sort Int (goal_scope t)) ⊎ (64 < count_sort Set (goal_scope t)) → is_goal_within (read_goal t) ≡ false
+    many_names h = by_test (is_goal_within (read_goal t)) refl h
+      where
+        by_test : (b : Bool) → is_goal_within (read_goal t) ≡ b → (64 < count_sort Int (goal_scope t)) ⊎ (64 < count_sort Set (goal_scope t)) → b ≡ false
+        by_test false e k = refl
+        by_test true e (inl k) = absurd (omega (arith, k, (ok t right e).few_ints))
+        by_test true e (inr k) = absurd (omega (arith, k, (ok t right e).few_sets))
+
+    pub goal_ready : length t.preds < 256 → TextSmall t → length t.pre.chunks ≤ 16 → count_sort Int (goal_scope t) ≤ 64 → count_sort Set (goal_scope t) ≤ 64 → GoalReadable t
+    goal_ready few small chunks ints sets = record {
+      few = omega (arith, by_sorts (goal_scope t) (goal_plain t), ints, sets);
+      few_chunks = omega (arith, chunks);
+      pre = body_ready t.preds few (goal_scope t) t.pre small.pre (λ u m.
+          name_sort t right u (Among-left u (param_uses t.params ++ kept_body t.preds t.pre) (kept_body t.preds t.post) (Among-right u (param_uses t.params) (kept_body t.preds t.pre) m)));
+      post = body_ready t.preds few (goal_scope t) t.post small.post (λ u m.
+          name_sort t right u (Among-right u (param_uses t.params ++ kept_body t.preds t.pre) (kept_body t.preds t.post) m));
+    }

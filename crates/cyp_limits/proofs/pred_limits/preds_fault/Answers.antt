@@ -1,0 +1,26 @@
+use Rattle.std.proofs.Common.{◌∙◌, ap}
+use Rattle.cyp_limits.proofs.LeastFaults.{least_turn}
+use Rattle.cyp_limits.proofs.PredTests.{all_at, among_at}
+use Rattle.cyp_limits.specs.InOrder.{is_name_first}
+use Rattle.cyp_names.specs.LeastFaults.{lesser_of}
+use Rattle.cyp_reading.specs.Small.{PredSmall}
+use Rattle.cyp_term.proofs.Lists.{each_at}
+use Rattle.cyp_text.proofs.FormedInstances.{none_each}
+use Rattle.cyp_text.specs.LimitFaults.{pred_limit_faults}
+use Rattle.cyp_text.specs.NameFaults.{pred_faults}
+use Rattle.cyp_limits.proofs.pred_limits.preds_fault.Goals as goal
+
+pub loop-pred-preserved : goal.loop-pred-preserved
+loop-pred-preserved c =
+    least_turn (pred_limit_faults c.args.preds.now) c.args.preds.now c.loop-pred.pred-index c.pred-item.result _ _ _ c.loop-pred-test.true c.pred-item.is
+    (c.lesser-least.ensures ∙ ap (lesser_of c.loop-pred.least) c.in_ok-pred_fault.ensures) c.loop-pred.invariant
+
+pub pred_fault-requires : goal.pred_fault-requires
+pred_fault-requires c =
+    let qs = c.args.preds.now in
+    let there = among_at qs c.loop-pred.pred-index c.pred-item.result c.loop-pred-test.true c.pred-item.is in
+    record {
+      right = none_each (pred_faults qs) qs c.requires.right c.pred-item.result there;
+      small = all_at PredSmall qs c.loop-pred.pred-index c.pred-item.result c.requires.small c.loop-pred-test.true c.pred-item.is;
+      order = each_at is_name_first c.pred-item.result qs c.requires.order there;
+    }

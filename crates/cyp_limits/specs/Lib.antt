@@ -1,0 +1,4 @@
+pub mod Elements
+pub mod InOrder
+pub mod LimitParts
+pub mod WrittenGoals

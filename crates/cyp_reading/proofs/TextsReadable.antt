@@ -1,0 +1,223 @@
+-- A text without faults whose numbers are small can be read.
+use Rattle.std.proofs.Common.{Bool, List, [], ap, arith, cond, false, filter, flat_map, inl, inr, length, length-append, map, refl, suc, true, zero, ℕ, ◌+◌, ◌++◌, ◌<◌, ◌≤◌, ◌∙◌, ◌∷◌, ◌≡◌, ◌≢◌}
+use Rattle.std.specs.Prelude.{is_some, nat_le, slice_get, ◌&&◌}
+use Rattle.std.specs.List.{All}
+use Rattle.std.proofs.lemmas.Bool.{and_parts, leb-true}
+use Rattle.std.proofs.lemmas.List.{length-map}
+use Rattle.cyp_goal.specs.Normal.{normal}
+use Rattle.cyp_heap.specs.Goals.{goal_vars}
+use Rattle.cyp_heap.specs.Limits.{goal_elements, is_goal_within}
+use Rattle.cyp_heap.specs.declared.chunk.Chunk.{Chunk}
+use Rattle.cyp_heap.specs.declared.chunk.Chunk.TheVariants.{Block, Cell, Inst}
+use Rattle.cyp_heap.specs.declared.goal.Goal.{Goal}
+use Rattle.cyp_lex.specs.declared.fault.Fault.{Fault}
+use Rattle.cyp_lex.specs.declared.fault.FaultKind.TheVariants.{TooLarge}
+use Rattle.cyp_reading.specs.Readable.{BodyReadable, ChunkReadable, LitReadable}
+use Rattle.cyp_reading.specs.ReadableTexts.{ClauseReadable, GoalReadable, PredReadable}
+use Rattle.cyp_reading.specs.Small.{BodySmall, ChunkSmall, ClauseSmall, PredSmall, TextSmall}
+use Rattle.cyp_reading.proofs.SortedRead.{Sorted, all_by, chunk_readable, lit_readable, pure_readable, sorted_flat, sorted_left, sorted_right}
+use Rattle.cyp_term.specs.Terms.{is_set_var, sort_eq, term_eq, var_eq, without_repeats}
+use Rattle.cyp_term.specs.declared.term.Sort.{Sort}
+use Rattle.cyp_term.specs.declared.term.Sort.TheVariants.{Card, Int, Set}
+use Rattle.cyp_term.specs.declared.term.Var.{Var}
+use Rattle.cyp_term.proofs.Lists.{Among, Among-left, Among-right, each_at, filter_in}
+use Rattle.cyp_text.specs.Bodies.{body_lits, in_kinds, is_block, is_cell, is_instance, kept_body, kept_lit, kept_parts}
+use Rattle.cyp_text.specs.LimitFaults.{extra_pred_fault, guard_of, is_pred_within, is_root_within, limit_faults, overlap_faults, pred_limit_faults, root_of, size_faults, unproductive_fault}
+use Rattle.cyp_text.specs.NameFaults.{clauses, fault_at, name_faults, pred_faults, proc_faults, repeats}
+use Rattle.cyp_text.specs.ReadTerms.{Scope, read_chunk, read_chunks}
+use Rattle.cyp_text.specs.Specifications.{clause_scope, count_sort, goal_scope, read_goal, read_pred, read_preds, read_tree, with_cards}
+use Rattle.cyp_text.specs.Uses.{Use, chunk_uses, param_uses}
+use Rattle.cyp_text.specs.declared.tree.BodyTree.{BodyTree}
+use Rattle.cyp_text.specs.declared.tree.ChunkTree.{ChunkTree}
+use Rattle.cyp_text.specs.declared.tree.ChunkTree.TheVariants.{BlockOf, InstanceOf, NamedCell, TermCell}
+use Rattle.cyp_text.specs.declared.tree.ClauseTree.{ClauseTree}
+use Rattle.cyp_text.specs.declared.tree.PredTree.{PredTree}
+use Rattle.cyp_text.specs.declared.tree.TextTree.{TextTree}
+use Rattle.cyp_text.proofs.FormedClauses.{name_sort as clause_sort}
+use Rattle.cyp_text.proofs.FormedInstances.{none_both, none_each, test_true}
+use Rattle.cyp_text.proofs.FormedSorts.{name_sort as goal_sort}
+use Rattle.cyp_text.proofs.PrintedClauses.{in_body, in_guard, ok as clause_ok}
+use Rattle.cyp_text.proofs.PrintedGoals.{in_post, in_pre, ok as goal_ok}
+use Rattle.cyp_text.proofs.PrintedNames.{Nameable}
+use Rattle.cyp_text.proofs.PrintedPreds.{clause_right, clause_within, once}
+
+-- ---- few names
+
+count_by : (s : Sort) → s ≢ Card → (u : Use) (us : Scope) → length us ≤ count_sort Int us + count_sort Set us
+    → length (u ∷ us) ≤ length (cond (sort_eq s Int) (u ∷ filter (λ (w : Use). sort_eq w.sort Int) us) (filter (λ (w : Use). sort_eq w.sort Int) us))
+    + length (cond (sort_eq s Set) (u ∷ filter (λ (w : Use). sort_eq w.sort Set) us) (filter (λ (w : Use). sort_eq w.sort Set) us))
+count_by Int n u us h = omega (arith, h)
+count_by Set n u us h = omega (arith, h)
+count_by Card n u us h = absurd (n refl)
+
+count_all : (sc : Scope) → ((u : Use) → Among u sc → u.sort ≢ Card) → length sc ≤ count_sort Int sc + count_sort Set sc
+count_all [] h = omega arith
+count_all (u ∷ us) h = count_by u.sort (h u (inl refl)) u us (count_all us (λ w m. h w (inr m)))
+
+few_in : (sc : Scope) → Nameable sc → length sc ≤ 255
+few_in sc ok = omega (arith, count_all sc ok.plain, ok.few_ints, ok.few_sets)
+
+-- ---- limits
+
+first_test : (a b c d e f g h : Bool) → (a && b && c && d && e && f && g && h) ≡ true → a ≡ true
+first_test true b c d e f g h k = refl
+first_test false b c d e f g h k = absurd cc
+
+-- each chunk is counted with its kind
+kinds_counted : (cs : List ChunkTree) → length (filter is_instance cs) + length (filter is_block cs) + length (filter is_cell cs) ≡ length cs
+kinds_counted [] = refl
+kinds_counted (InstanceOf i xs ∷ cs) = omega (arith, kinds_counted cs)
+kinds_counted (BlockOf a p n ∷ cs) = omega (arith, kinds_counted cs)
+kinds_counted (NamedCell i t ∷ cs) = omega (arith, kinds_counted cs)
+kinds_counted (TermCell a t ∷ cs) = omega (arith, kinds_counted cs)
+
+pub kinds_length : (cs : List ChunkTree) → length (in_kinds cs) ≡ length cs
+kinds_length cs =
+    length-append (filter is_instance cs ++ filter is_block cs) (filter is_cell cs) ∙ ap (λ (n : ℕ). n + length (filter is_cell cs)) (length-append (filter is_instance cs) (filter is_block cs)) ∙ kinds_counted cs
+
+pub cards_length : (k : ℕ) (cs : List Chunk) → length (with_cards k cs) ≡ length cs
+cards_length k [] = refl
+cards_length k (Inst i ∷ cs) = ap suc (cards_length (suc k) cs)
+cards_length k (Block b ∷ cs) = ap suc (cards_length k cs)
+cards_length k (Cell c ∷ cs) = ap suc (cards_length k cs)
+
+-- a goal within the limits has few chunks
+pre_few : (g : Goal) → is_goal_within g ≡ true → length g.pre.chunks ≤ 16
+pre_few g e =
+    let vs : List Var = without_repeats var_eq (goal_vars g) in
+    leb-true (length g.pre.chunks) 16 (first_test (nat_le (length g.pre.chunks) 16) (nat_le (length g.post.chunks) 16) (nat_le (length g.pure_pre) 40) (nat_le (length g.pure_post) 40) (nat_le (length g.program) 12)
+    (nat_le (length (filter (λ (v : Var). sort_eq v.sort Int) vs)) 64) (nat_le (length (filter is_set_var vs)) 32) (nat_le (length (without_repeats term_eq (goal_elements g))) 32) e)
+
+chunks_few : (t : TextTree) → is_goal_within (read_goal t) ≡ true → length t.pre.chunks ≤ 255
+chunks_few t e =
+    let read : List Chunk = read_chunks t.preds (goal_scope t) t.pre in
+    omega (arith, pre_few (read_goal t) e, cards_length 0 read, length-map (in_kinds t.pre.chunks) (read_chunk t.preds (goal_scope t)), kinds_length t.pre.chunks)
+
+-- the sizes of a predicate
+pred_sizes : (qs : List PredTree) (q : PredTree) → pred_limit_faults qs q ≡ [] → flat_map (λ (c : ClauseTree). size_faults c.body) (clauses q) ≡ []
+pred_sizes qs q e =
+    let overlap_part : List Fault = overlap_faults (guard_of qs q.params) [] (clauses q) in
+    let owner_part : List Fault = flat_map unproductive_fault (clauses q) in
+    let size_part : List Fault = flat_map (λ (c : ClauseTree). size_faults c.body) (clauses q) in
+    let limit_part : List Fault = cond (is_pred_within (read_pred qs q)) [] (fault_at TooLarge q.name.place) in
+    (none_both (overlap_part ++ owner_part) size_part (none_both (overlap_part ++ owner_part ++ size_part) limit_part e).0).1
+
+-- ---- bodies
+
+-- each chunk is of a kind
+in_a_kind : (c : ChunkTree) (cs : List ChunkTree) → Among c cs → Among c (in_kinds cs)
+in_a_kind (InstanceOf i xs) cs m = Among-left _ (filter is_instance cs ++ filter is_block cs) (filter is_cell cs) (Among-left _ (filter is_instance cs) (filter is_block cs) (filter_in is_instance (InstanceOf i xs) cs m refl))
+in_a_kind (BlockOf a p n) cs m = Among-left _ (filter is_instance cs ++ filter is_block cs) (filter is_cell cs) (Among-right _ (filter is_instance cs) (filter is_block cs) (filter_in is_block (BlockOf a p n) cs m refl))
+in_a_kind (NamedCell i t) cs m = Among-right _ (filter is_instance cs ++ filter is_block cs) (filter is_cell cs) (filter_in is_cell (NamedCell i t) cs m refl)
+in_a_kind (TermCell a t) cs m = Among-right _ (filter is_instance cs ++ filter is_block cs) (filter is_cell cs) (filter_in is_cell (TermCell a t) cs m refl)
+
+module _ (qs : List PredTree) (few : length qs < 256) (sc : Scope) (b : BodyTree) (small : BodySmall b) (sorted : Sorted sc (kept_body qs b)) where
+  abbrev lit_part : List Use
+  lit_part = flat_map (kept_lit false) (body_lits b)
+
+  abbrev chunk_part : List Use
+  chunk_part = flat_map (chunk_uses kept_parts qs) (in_kinds b.chunks)
+
+  pub body_readable : BodyReadable qs sc b
+  body_readable = record {
+    pure = pure_readable sc b.pure small.pure (λ l m. sorted_flat sc (kept_lit false) l (body_lits b) m (sorted_left sc lit_part chunk_part sorted));
+    chunks = all_by ChunkSmall (ChunkReadable qs sc) b.chunks (λ c m k.
+        chunk_readable sc qs few c k (sorted_flat sc (chunk_uses kept_parts qs) c (in_kinds b.chunks) (in_a_kind c b.chunks m) (sorted_right sc lit_part chunk_part sorted))) small.chunks;
+  }
+
+-- ---- predicates
+
+-- no predicate stands behind the last that is allowed
+preds_short : (n : ℕ) (qs : List PredTree) → extra_pred_fault (slice_get qs n) ≡ [] → length qs ≤ n
+preds_short n [] e = omega arith
+preds_short zero (q ∷ qs) e = absurd cc
+preds_short (suc n) (q ∷ qs) e = omega (arith, preds_short n qs e)
+
+module _ (qs : List PredTree) (right : flat_map (pred_faults qs) qs ≡ []) (within : flat_map (pred_limit_faults qs) qs ≡ []) (few : length qs < 256) where
+  module _ (q : PredTree) (m : Among q qs) where
+    q_right : pred_faults qs q ≡ []
+    q_right = none_each (pred_faults qs) qs right q m
+
+    q_within : pred_limit_faults qs q ≡ []
+    q_within = none_each (pred_limit_faults qs) qs within q m
+
+    sizes_right : (c : ClauseTree) → Among c (clauses q) → size_faults c.body ≡ []
+    sizes_right = none_each (λ (c : ClauseTree). size_faults c.body) (clauses q) (pred_sizes qs q q_within)
+
+    clause_readable : (c : ClauseTree) → Among c (clauses q) → ClauseSmall c → ClauseReadable qs q.params c
+    clause_readable c n s =
+        let a = once qs q q_right q_within in
+        let e = clause_right qs q q_right q_within c n in
+        let w = clause_within qs q q_right q_within c n in
+        let sc : Scope = clause_scope qs q.params c in
+        record {
+          inside = record {
+            few = few_in sc (clause_ok qs q.params c a e w);
+            guard = lit_readable sc false c.guard s.guard (λ u k. clause_sort qs q.params c a e u (in_guard qs q.params c a e w u k));
+            body = body_readable qs few sc c.body s.body (λ u k. clause_sort qs q.params c a e u (in_body qs q.params c a e w u k));
+          };
+          sizes = sizes_right c n;
+        }
+
+  -- each predicate
+  pub each_readable : All PredSmall qs → All (PredReadable qs) qs
+  each_readable small = all_by PredSmall (PredReadable qs) qs (λ q m s. (clause_readable q m q.first (inl refl) s.0, all_by ClauseSmall (ClauseReadable qs q.params) q.others (λ c k. clause_readable q m c (inr k)) s.1)) small
+
+-- the two bodies of a goal within the limits
+pub bodies_readable : (t : TextTree) → name_faults t ≡ [] → is_goal_within (read_goal t) ≡ true → length t.preds < 256 → BodySmall t.pre → BodySmall t.post → GoalReadable t
+bodies_readable t right within few pre post = record {
+  few = few_in (goal_scope t) (goal_ok t right within);
+  few_chunks = chunks_few t within;
+  pre = body_readable t.preds few (goal_scope t) t.pre pre (λ u m. goal_sort t right u (in_pre t right within u m));
+  post = body_readable t.preds few (goal_scope t) t.post post (λ u m. goal_sort t right u (in_post t right within u m));
+}
+
+-- ---- a text without faults
+
+module _ (t : TextTree) (right : name_faults t ≡ []) (within : limit_faults t ≡ []) (small : TextSmall t) where
+  abbrev qs : List PredTree
+  qs = t.preds
+
+  abbrev root_part : List Fault
+  root_part = cond (is_root_within (read_tree t)) [] (fault_at TooLarge t.name.place)
+
+  abbrev pred_part : List Fault
+  pred_part = flat_map (pred_limit_faults qs) qs
+
+  abbrev extra_part : List Fault
+  extra_part = extra_pred_fault (slice_get qs 16)
+
+  all_within : (pred_part ≡ []) × (extra_part ≡ []) × (size_faults t.pre ≡ []) × (size_faults t.post ≡ []) × (root_part ≡ [])
+  all_within =
+      let a = none_both (pred_part ++ extra_part ++ size_faults t.pre ++ size_faults t.post) root_part within in
+      let b = none_both (pred_part ++ extra_part ++ size_faults t.pre) (size_faults t.post) a.0 in
+      let c = none_both (pred_part ++ extra_part) (size_faults t.pre) b.0 in
+      let d = none_both pred_part extra_part c.0 in
+      (d.0, d.1, c.1, b.1, a.1)
+
+  preds_right : flat_map (pred_faults qs) qs ≡ []
+  preds_right =
+      (none_both (repeats [] (map (λ (q : PredTree). q.name) qs)) (flat_map (pred_faults qs) qs)
+      (none_both (repeats [] (map (λ (q : PredTree). q.name) qs) ++ flat_map (pred_faults qs) qs) (proc_faults t) right).0).1
+
+  few_preds : length qs < 256
+  few_preds = omega (arith, preds_short 16 qs all_within.1)
+
+  pub preds_readable : All (PredReadable qs) qs
+  preds_readable = each_readable qs preds_right all_within.0 few_preds small.preds
+
+  goal_within : is_goal_within (read_goal t) ≡ true
+  goal_within =
+      (and_parts (is_goal_within (read_goal t)) (is_some (normal (root_of (read_tree t)))) (test_true (is_root_within (read_tree t)) _ [] all_within.4)).0
+
+  pub goal_readable : GoalReadable t
+  goal_readable = bodies_readable t right goal_within few_preds small.pre small.post
+
+  pub pre_sizes : size_faults t.pre ≡ []
+  pre_sizes = all_within.2
+
+  pub post_sizes : size_faults t.post ≡ []
+  post_sizes = all_within.3
+
+  pub root_right : is_root_within (read_tree t) ≡ true
+  root_right = test_true (is_root_within (read_tree t)) _ [] all_within.4

@@ -1,0 +1,79 @@
+-- The variables and elements of unions that are read.
+use Rattle.std.proofs.Common.{Bool, List, [], refl, ◌+◌, arith, flat_map, length, map, suc, sym, zero, ℕ, ◌++◌, ◌<◌, ◌∷◌, ◌≡◌, ◌∙◌, get_or, drop, ap}
+use Rattle.std.specs.List.{All}
+use Rattle.cyp_reading.specs.Readable.{HasSort, IntReadable, PartReadable}
+use Rattle.cyp_term.specs.SetTermValue.{AllSets}
+use Rattle.cyp_term.specs.Terms.{term_eq, var_eq, with_all_new, with_new, without_repeats}
+use Rattle.cyp_term.specs.declared.term.Sort.TheVariants.{Set}
+use Rattle.cyp_term.specs.declared.term.Term.{Term}
+use Rattle.cyp_term.specs.declared.term.Var.{Var}
+use Rattle.cyp_term.proofs.Images.{AllSets_with_all_new}
+use Rattle.cyp_term.proofs.Repeats.{with_all_new_append}
+use Rattle.cyp_term.proofs.Turns.{added_turn}
+use Rattle.cyp_text.specs.ReadTerms.{Scope, part_elems, part_vars, read_int, var_named}
+use Rattle.cyp_text.specs.declared.tree.IntTree.{IntTree}
+use Rattle.cyp_text.specs.declared.tree.PartTree.{PartTree}
+use Rattle.cyp_text.specs.declared.tree.PartTree.TheVariants.{Braces, PartName}
+
+-- each item behind the first
+pub all_rest : {A : Type 0} (P : A → Type 0) (x : A) (xs : List A) → All P (x ∷ xs) → All P xs
+all_rest P x xs h k d l = h (suc k) d (omega (arith, l))
+
+-- the first item
+pub all_first : {A : Type 0} (P : A → Type 0) (x : A) (xs : List A) → All P (x ∷ xs) → P x
+all_first P x xs h = h 0 x (omega arith)
+
+-- an item and those behind it
+pub all_cons : {A : Type 0} (P : A → Type 0) (x : A) (xs : List A) → P x → All P xs → All P (x ∷ xs)
+all_cons P x xs h k zero d l = h
+all_cons P x xs h k (suc n) d l = k n d (omega (arith, l))
+
+-- ---- sorts
+
+sets_append : (vs ws : List Var) → AllSets vs → AllSets ws → AllSets (vs ++ ws)
+sets_append [] ws h k = k
+sets_append (v ∷ vs) ws h k = (h.0, sets_append vs ws h.1 k)
+
+module _ (sc : Scope) where
+  part_sets : (u : PartTree) → PartReadable sc u → AllSets (part_vars sc u)
+  part_sets (PartName i) h = (h, tt)
+  part_sets (Braces p ts) h = tt
+
+  parts_sets : (us : List PartTree) → All (PartReadable sc) us → AllSets (flat_map (part_vars sc) us)
+  parts_sets [] h = tt
+  parts_sets (u ∷ us) h =
+      sets_append (part_vars sc u) (flat_map (part_vars sc) us) (part_sets u (all_first (PartReadable sc) u us h)) (parts_sets us (all_rest (PartReadable sc) u us h))
+
+  -- the variables of a union are sets
+  pub union_sets : (us : List PartTree) → All (PartReadable sc) us → AllSets (without_repeats var_eq (flat_map (part_vars sc) us))
+  union_sets us h = AllSets_with_all_new [] (flat_map (part_vars sc) us) tt (parts_sets us h)
+
+  -- ---- turns of loops
+
+  pub vars_turn : (us : List PartTree) (i : ℕ) (d : PartTree) (old new whole : List Var) → i < length us → d ≡ get_or us i d → new ≡ with_all_new var_eq old (part_vars sc d)
+      → with_all_new var_eq old (flat_map (part_vars sc) (drop i us)) ≡ whole → with_all_new var_eq new (flat_map (part_vars sc) (drop (i + 1) us)) ≡ whole
+  vars_turn us i d old new whole l at added h =
+      added_turn (part_vars sc) (flat_map (part_vars sc)) (λ v vs. refl) var_eq us i d old new whole l (added ∙ ap (λ (u : PartTree). with_all_new var_eq old (part_vars sc u)) at) h
+
+  pub elems_turn : (us : List PartTree) (i : ℕ) (d : PartTree) (old new whole : List Term) → i < length us → d ≡ get_or us i d → new ≡ with_all_new term_eq old (part_elems sc d)
+      → with_all_new term_eq old (flat_map (part_elems sc) (drop i us)) ≡ whole → with_all_new term_eq new (flat_map (part_elems sc) (drop (i + 1) us)) ≡ whole
+  elems_turn us i d old new whole l at added h =
+      added_turn (part_elems sc) (flat_map (part_elems sc)) (λ v vs. refl) term_eq us i d old new whole l (added ∙ ap (λ (u : PartTree). with_all_new term_eq old (part_elems sc u)) at) h
+
+  pub terms_turn : (ts : List IntTree) (i : ℕ) (d : IntTree) (old new whole : List Term) → i < length ts → d ≡ get_or ts i d → new ≡ with_new term_eq old (read_int sc d)
+      → with_all_new term_eq old (map (read_int sc) (drop i ts)) ≡ whole → with_all_new term_eq new (map (read_int sc) (drop (i + 1) ts)) ≡ whole
+  terms_turn ts i d old new whole l at added h =
+      added_turn (λ (t : IntTree). read_int sc t ∷ []) (map (read_int sc)) (λ v vs. refl) term_eq ts i d old new whole l (added ∙ ap (λ (t : IntTree). with_new term_eq old (read_int sc t)) at) h
+
+-- ---- joining what was added
+
+-- what the first part adds and what the others add
+pub two_added : {X : Type 0} (eq : X → X → Bool) (start first all xs ys : List X) → start ≡ [] → first ≡ with_all_new eq start xs → all ≡ with_all_new eq first ys → all ≡ without_repeats eq (xs ++ ys)
+two_added {X} eq start first all xs ys a b c =
+    c ∙ ap (λ (zs : List X). with_all_new eq zs ys) (b ∙ ap (λ (zs : List X). with_all_new eq zs xs) a) ∙ sym (with_all_new_append eq [] xs ys)
+
+-- and a third
+pub three_added : {X : Type 0} (eq : X → X → Bool) (start first second all xs ys zs : List X) → start ≡ [] → first ≡ with_all_new eq start xs → second ≡ with_all_new eq first ys → all ≡ with_all_new eq second zs
+    → all ≡ without_repeats eq (xs ++ (ys ++ zs))
+three_added {X} eq start first second all xs ys zs a b c d =
+    two_added eq start first all xs (ys ++ zs) a b (d ∙ ap (λ (ws : List X). with_all_new eq ws zs) c ∙ sym (with_all_new_append eq first ys zs))

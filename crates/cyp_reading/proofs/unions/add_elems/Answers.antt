@@ -1,0 +1,6 @@
+use Rattle.cyp_reading.proofs.UnionsRead.{elems_turn}
+use Rattle.cyp_reading.proofs.unions.add_elems.Goals as goal
+
+pub loop-part-preserved : goal.loop-part-preserved
+loop-part-preserved c =
+    elems_turn c.args.scope.now c.args.parts.now c.loop-part.part-index c.part-item.result _ _ _ c.loop-part-test.true c.part-item.is c.in_ok-add_part_elems.ensures c.loop-part.invariant

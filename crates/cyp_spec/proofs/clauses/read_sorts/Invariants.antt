@@ -1,6 +1,0 @@
-use Rattle.std.proofs.Common.{◌≡◌, map, take}
-use Rattle.cyp_text.specs.Uses.{param_sort}
-use Rattle.cyp_spec.proofs.clauses.read_sorts.Given as goal
-
-abbrev pub invariant-loop-param : goal.invariant-loop-param
-invariant-loop-param l = l.sorts.items ≡ map param_sort (take l.param-index l.params)

@@ -1,8 +1,0 @@
-use Rattle.std.proofs.Common.{take, ◌≡◌}
-use Rattle.cyp_grammar.specs.Lexemes.{Symbol}
-use Rattle.cyp_grammar.specs.Spelling.{more_spelling}
-use Rattle.cyp_spec.specs.PrintMarks.{with_marks}
-use Rattle.cyp_spec.proofs.printed_lists.print_more.Given as goal
-
-abbrev pub invariant-loop-item : goal.invariant-loop-item
-invariant-loop-item g l = l.to ≡ with_marks l.initial.to (more_spelling (Symbol l.separator) (g.T.Print.spelling l.preds) (take l.item-index l.items))

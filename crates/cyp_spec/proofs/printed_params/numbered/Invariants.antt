@@ -1,7 +1,0 @@
-use Rattle.std.proofs.Common.{[], map, take, ◌≡◌}
-use Rattle.cyp_spec.specs.PrintParts.{param_of}
-use Rattle.cyp_text.specs.PrintedTrees.{params_from}
-use Rattle.cyp_spec.proofs.printed_params.numbered.Given as goal
-
-abbrev pub invariant-loop-i : goal.invariant-loop-i
-invariant-loop-i l = l.params.items ≡ map param_of (params_from [] (take l.i l.sorts))

@@ -1,0 +1,21 @@
+use Rattle.std.proofs.Common.{ap, take, ◌∙◌}
+use Rattle.std.specs.Prelude.{flat_map}
+use Rattle.cyp_writing.proofs.PrintLines.{line_begins, lines_step, text_written}
+use Rattle.cyp_text.specs.Printing.{pred_line}
+use Rattle.cyp_writing.proofs.written.write_spec.Goals as goal
+
+pub pred_line-requires : goal.pred_line-requires
+pred_line-requires c = line_begins c.loop-pred.printer (flat_map (pred_line c.get-preds.result.now) (take c.loop-pred.pred-index c.list-pred-items.result.now)) c.loop-pred.invariant
+
+pub proc_line-requires : goal.proc_line-requires
+proc_line-requires c = line_begins c.loop-pred.printer (flat_map (pred_line c.get-preds.result.now) (take c.loop-pred.pred-index c.list-pred-items.result.now)) c.loop-pred.invariant
+
+pub loop-pred-preserved : goal.loop-pred-preserved
+loop-pred-preserved c =
+    lines_step (pred_line c.get-preds.result.now) c.list-pred-items.result.now c.loop-pred.pred-index c.pred-item.result c.loop-pred.printer c.pred_line.new.self
+    c.loop-pred-test.true c.pred-item.is c.loop-pred.invariant c.in_ok-pred_line.ensures
+
+pub returns : goal.returns
+returns c =
+    text_written c.args.spec.now c.get-preds.result.now c.list-pred-items.result.now c.as_slice.result.now c.goal.result.now c.loop-pred.pred-index c.loop-pred.printer c.proc_line.new.self c.into_text.result
+    (c.get-preds.ensures ∙ c.preds.ensures.preds) c.list-pred-items.ensures.list (c.as_slice.ensures ∙ c.name.ensures) c.goal.ensures.goal c.loop-pred-test.false c.loop-pred.invariant c.in_ok-proc_line.ensures c.into_text.ensures

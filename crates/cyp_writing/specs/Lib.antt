@@ -1,0 +1,2 @@
+pub mod PrintMarks
+pub mod PrintParts

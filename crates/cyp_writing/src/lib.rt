@@ -1,0 +1,16 @@
+//! Specifications, printed.
+#![tactic(auto)]
+
+mod printed_bodies;
+mod printed_chunks;
+mod printed_lists;
+mod printed_literals;
+mod printed_params;
+mod printed_terms;
+mod printer;
+mod written;
+
+pub use written::write_spec;
+
+#[cfg(test)]
+mod printing_tests;
