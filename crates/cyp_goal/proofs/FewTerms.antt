@@ -1,10 +1,10 @@
 -- Terms are added until they are too many.
-use Rattle.std.proofs.Common.{◌≡◌, ◌∙◌, ◌⊎◌, [], ◌∷◌, ◌++◌, ◌<◌, ◌≤◌, ◌+◌, ℕ, List, Bool, true, false, cond, drop, get_or, length, length-append, nat_le, suc, refl, ap, sym, subst, arith, leb-true, le_refl, le_trans, ⊎_elim}
+use Rattle.std.proofs.Common.{◌≡◌, ◌∙◌, ◌⊎◌, [], ◌∷◌, ◌++◌, ◌<◌, ◌≤◌, ◌+◌, ℕ, List, false, drop, get_or, length, length-append, nat_le, refl, ap, sym, arith, leb-true, le_refl, le_trans, ⊎_elim}
 use Rattle.std.specs.List.{flat_map, list_any}
 use Rattle.std.proofs.lemmas.Bool.{both_ways, cases_Bool, cond-false, cond-true, cond_both, le-leb}
 use Rattle.cyp_goal.proofs.Loops.{rest_step}
 use Rattle.cyp_goal.specs.Counting.{with_all_few, with_few}
-use Rattle.cyp_term.specs.Terms.{lit_elements, term_eq, with_all_new, with_new, without_repeats}
+use Rattle.cyp_term.specs.Terms.{lit_elements, term_eq, with_all_new, with_new}
 use Rattle.cyp_term.specs.declared.lit.Lit.{Lit}
 use Rattle.cyp_term.specs.declared.lit.Lit.TheVariants.{NotSame, NotSub, Same, Sub}
 use Rattle.cyp_term.specs.declared.lit.SetTerm.{SetTerm}

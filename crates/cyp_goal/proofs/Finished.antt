@@ -1,11 +1,11 @@
 -- The last step of the normal form, by a table of the variables.
-use Rattle.std.proofs.Common.{◌≡◌, ◌∙◌, Bool, IsTrue, List, None, Some, cond, filter, length, refl, subst, sym, ap, true, false}
+use Rattle.std.proofs.Common.{◌≡◌, ◌∙◌, List, None, Some, filter, length, subst, sym, ap, true, false}
 use Rattle.std.proofs.lemmas.Bool.{cond-false, cond-true}
 use Rattle.cyp_goal.proofs.NumberedKeeps.{ints_stay, sets_stay, sorts_from}
 use Rattle.cyp_goal.proofs.ReadyNodes.{keeps_numbered}
 use Rattle.cyp_goal.proofs.Renumber.{no_set}
 use Rattle.cyp_goal.specs.Named.{PartsFit}
-use Rattle.cyp_goal.specs.Normal.{Renaming, keep_limits}
+use Rattle.cyp_goal.specs.Normal.{keep_limits}
 use Rattle.cyp_goal.specs.Numbering.{renumber}
 use Rattle.cyp_goal.specs.Ready.{IsReady}
 use Rattle.cyp_heap.specs.Goals.{node_vars}

@@ -1,5 +1,5 @@
 -- The first literal that is solved, by its place.
-use Rattle.std.proofs.Common.{◌≡◌, ◌∙◌, ◌&&◌, [], ◌∷◌, ℕ, zero, suc, ◌<◌, ◌≤◌, Bool, List, None, Option, Some, false, true, length, get_or, take, option_map, refl, ap, sym, IsTrue, is_some, arith}
+use Rattle.std.proofs.Common.{◌≡◌, ◌∙◌, [], ◌∷◌, ℕ, zero, suc, ◌<◌, ◌≤◌, List, None, Option, Some, true, length, get_or, take, option_map, refl, ap, sym, arith}
 use Rattle.std.specs.List.{list_all, remove}
 use Rattle.std.specs.Option.{is_none}
 use Rattle.std.proofs.lemmas.Bool.{and_parts, false≢true}

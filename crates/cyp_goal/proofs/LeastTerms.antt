@@ -1,7 +1,7 @@
 -- The least of the addresses with one base, one more address.
-use Rattle.std.proofs.Common.{◌≡◌, ◌∙◌, ◌&&◌, [], ◌∷◌, ◌++◌, Bool, IsTrue, List, None, Option, Some, ℕ, ◌+◌, ◌<◌, false, true, cond, get_or, length, int_le, int_lt, map, not, option_map, take, ℤ, pos, inl, inr, refl, ap, sym, append-nil}
+use Rattle.std.proofs.Common.{◌≡◌, ◌∙◌, [], ◌∷◌, ◌++◌, Bool, IsTrue, List, None, Option, Some, ℕ, ◌+◌, ◌<◌, false, true, cond, get_or, length, int_le, int_lt, map, not, option_map, take, ℤ, pos, inl, inr, refl, ap, sym, append-nil}
 use Rattle.std.specs.List.{filter, flat_map}
-use Rattle.std.proofs.lemmas.Bool.{cases_Bool, cond-false, cond-true}
+use Rattle.std.proofs.lemmas.Bool.{cond-false, cond-true}
 use Rattle.std.proofs.lemmas.List.{map-append, take_more}
 use Rattle.std.proofs.lemmas.List.Elements.{filter-append}
 use Rattle.cyp_goal.proofs.IntOrders.{int_lt-not_le}

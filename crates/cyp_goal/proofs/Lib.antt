@@ -47,7 +47,6 @@ pub mod Tidied
 pub mod Spreading
 pub mod TidyLeaves
 pub mod VarTables
-pub mod Counts
 pub mod FewTerms
 pub mod Finished
 pub mod NumberedKeeps

@@ -1,22 +1,20 @@
 -- Images under the numbering of a list, also of variables that it lacks.
-use Rattle.std.proofs.Common.{◌≡◌, ◌∙◌, ◌||◌, ◌+ℤ◌, [], ◌∷◌, ◌++◌, Bool, List, None, Option, Some, false, true, cond, map, not, pos, get_or, length, zero, suc, ℕ, ◌<◌, arith, refl, ap, ap₂, sym}
-use Rattle.std.specs.List.{filter, flat_map, list_all}
-use Rattle.std.proofs.lemmas.Bool.{and_from, both_ways, cond-false, cond-true, false_from_ne_true, or_parts}
+use Rattle.std.proofs.Common.{◌≡◌, ◌∙◌, [], ◌∷◌, ◌++◌, Bool, List, None, Some, false, true, cond, map, not, get_or, length, zero, suc, ℕ, ◌<◌, arith, refl, ap, ap₂, sym}
+use Rattle.std.specs.List.{filter, list_all}
+use Rattle.std.proofs.lemmas.Bool.{and_from, both_ways, cond-false, false_from_ne_true, or_parts}
 use Rattle.cyp_goal.proofs.Live.{among_in, in_among}
 use Rattle.cyp_goal.proofs.Renumber.{int_image_at, set_image_at}
 use Rattle.cyp_goal.specs.Named.{named, no_set}
 use Rattle.cyp_goal.specs.Numbering.{new_name, numbering}
 use Rattle.cyp_heap.specs.Chunks.{apply_card}
 use Rattle.cyp_term.proofs.Equality.{Decides-var_eq}
-use Rattle.cyp_term.proofs.Lists.{Among, filter_in, filter_out}
+use Rattle.cyp_term.proofs.Lists.{filter_in, filter_out}
 use Rattle.cyp_term.proofs.Numbers.{zero-plus}
 use Rattle.cyp_term.specs.Images.{image_elems, image_of, image_vars}
 use Rattle.cyp_term.specs.SetTermValue.{AllSets}
 use Rattle.cyp_term.specs.TermValue.{IsNumber}
 use Rattle.cyp_term.specs.Terms.{apply_set, apply_term, image_or_self, int_image, is_set_var, set_image, set_var, term_at, term_base, term_eq, var_at, var_eq, var_in, var_term, without_repeats}
 use Rattle.cyp_term.specs.declared.lit.SetTerm.{SetTerm}
-use Rattle.cyp_term.specs.declared.subst.IntBind.{IntBind}
-use Rattle.cyp_term.specs.declared.subst.SetBind.{SetBind}
 use Rattle.cyp_term.specs.declared.term.Sort.{Sort}
 use Rattle.cyp_term.specs.declared.term.Sort.TheVariants.{Card, Int, Set}
 use Rattle.cyp_term.specs.declared.term.Term.{Term}

@@ -1,9 +1,8 @@
 -- A node that is numbered anew and within limits keeps what each node keeps.
-use Rattle.std.proofs.Common.{◌≡◌, ◌∙◌, ◌⊎◌, [], ◌∷◌, ◌++◌, ◌<◌, ◌≤◌, List, Option, Some, None, Bool, IsTrue, true, false, ◌&&◌, filter, length, map, not, ℕ, nat_le, nat_lt, refl, ap, subst, sym, arith, leb-true, ⊎_elim, is_none}
+use Rattle.std.proofs.Common.{◌≡◌, ◌∙◌, ◌⊎◌, [], ◌∷◌, ◌++◌, ◌<◌, ◌≤◌, List, Option, Some, None, Bool, IsTrue, true, filter, length, map, not, nat_le, nat_lt, refl, ap, subst, sym, arith, leb-true, ⊎_elim, is_none}
 use Rattle.std.specs.List.{AllByRecursion, list_all}
 use Rattle.std.proofs.lemmas.Bool.{and_from, and_parts, false≢true, lt-ltb}
 use Rattle.std.proofs.lemmas.List.{length-map}
-use Rattle.std.proofs.lemmas.List.Folds.{list_all-append}
 use Rattle.cyp_goal.proofs.LinksFit.{InstPasses, SidesFit, sides_fit}
 use Rattle.cyp_goal.proofs.Live.{among_in, in_among}
 use Rattle.cyp_goal.proofs.Maps.{filter-map}
@@ -14,7 +13,7 @@ use Rattle.cyp_goal.proofs.Renumber.{no_set}
 use Rattle.cyp_goal.proofs.VarTables.{rank_kind}
 use Rattle.cyp_goal.specs.Named.{PartsFit, parts_fit}
 use Rattle.cyp_goal.specs.Numbering.{new_name, rank_in, renumber}
-use Rattle.cyp_goal.specs.Raw.{arg_fits, chunk_fits, term_fits}
+use Rattle.cyp_goal.specs.Raw.{arg_fits, chunk_fits}
 use Rattle.cyp_heap.specs.Chunks.{card_vars}
 use Rattle.cyp_heap.specs.Formed.{insts_fit, is_card_var}
 use Rattle.cyp_heap.specs.Goals.{node_vars}

@@ -1,10 +1,10 @@
 -- What is pruned by tables of variables is what the definition prunes.
-use Rattle.std.proofs.Common.{◌≡◌, ◌∙◌, ◌&&◌, [], ◌∷◌, ◌++◌, Bool, List, false, true, cond, length, map, not, refl, ap, sym, subst, inl, inr, ⊎_elim}
+use Rattle.std.proofs.Common.{◌≡◌, ◌∙◌, ◌&&◌, [], ◌∷◌, ◌++◌, Bool, List, cond, length, map, not, refl, ap, sym, inl, inr, ⊎_elim}
 use Rattle.std.specs.List.{filter, list_all}
 use Rattle.std.proofs.lemmas.Bool.{and_from, and_parts}
 use Rattle.cyp_goal.proofs.Live.{among_in, in_among, live_old}
 use Rattle.cyp_goal.proofs.SameVars.{same_bool, same_in, same_once_vars}
-use Rattle.cyp_goal.specs.Alive.{alive_images, alive_link, is_alive}
+use Rattle.cyp_goal.specs.Alive.{alive_link, is_alive}
 use Rattle.cyp_goal.specs.Pruning.{is_kept, live_vars, only_vars, prune}
 use Rattle.cyp_heap.specs.Chunks.{chunks_vars}
 use Rattle.cyp_heap.specs.Goals.{tuple_vars}
@@ -18,7 +18,6 @@ use Rattle.cyp_term.specs.Terms.{lits_vars, set_vars, term_vars, var_eq, var_in,
 use Rattle.cyp_term.specs.declared.lit.Lit.{Lit}
 use Rattle.cyp_term.specs.declared.subst.IntBind.{IntBind}
 use Rattle.cyp_term.specs.declared.subst.SetBind.{SetBind}
-use Rattle.cyp_term.specs.declared.subst.Subst.{Subst}
 use Rattle.cyp_term.specs.declared.term.Var.{Var}
 
 -- a table has the variables of the list

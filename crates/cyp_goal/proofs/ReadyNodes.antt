@@ -1,5 +1,5 @@
 -- A node is ready to be numbered after the other steps; within limits it then keeps what each node keeps.
-use Rattle.std.proofs.Common.{◌≡◌, ◌∙◌, ◌++◌, ap, option_and_then, IfSome, IsTrue, List, None, Option, Some, true, refl, subst, sym, ⊎_elim}
+use Rattle.std.proofs.Common.{◌≡◌, ◌∙◌, ◌++◌, ap, option_and_then, IfSome, IsTrue, List, None, Option, Some, refl, subst, sym, ⊎_elim}
 use Rattle.std.specs.List.{list_all}
 use Rattle.cyp_goal.proofs.LinksFit.{insts_fit_from, sides_fit}
 use Rattle.cyp_goal.proofs.LinksNormal.{FitsOver, fits_kept, linked_kept, pruned_kept, renumber_kept}
@@ -18,7 +18,7 @@ use Rattle.cyp_heap.specs.Keeps.{KeepsNode}
 use Rattle.cyp_heap.specs.Limits.{is_within_limits}
 use Rattle.cyp_heap.specs.declared.goal.Node.{Node}
 use Rattle.cyp_heap.specs.declared.pred.Preds.{Preds}
-use Rattle.cyp_term.proofs.Lists.{Among, Among-cases, each_from, filter_out}
+use Rattle.cyp_term.proofs.Lists.{Among-cases, each_from, filter_out}
 use Rattle.cyp_term.specs.Terms.{lits_vars, var_in}
 use Rattle.cyp_term.specs.declared.term.Var.{Var}
 

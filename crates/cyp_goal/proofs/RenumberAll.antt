@@ -1,5 +1,5 @@
 -- Numbering anew is a renaming of what has no repeats in any set term.
-use Rattle.std.proofs.Common.{◌≡◌, ◌∙◌, [], ◌++◌, List, Bool, true, ◌&&◌, map, flat_map, refl, ap}
+use Rattle.std.proofs.Common.{◌≡◌, ◌∙◌, [], ◌++◌, List, true, ◌&&◌, map, flat_map, ap}
 use Rattle.std.specs.List.{list_all}
 use Rattle.cyp_goal.proofs.NormalKeeps.{HasSorts}
 use Rattle.cyp_goal.proofs.Rename.{IsRenaming, rename_link, rename_lit, rename_node, rename_set, rename_term}

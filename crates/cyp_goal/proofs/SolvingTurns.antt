@@ -1,5 +1,5 @@
 -- One turn of solving, by the literal that is solved.
-use Rattle.std.proofs.Common.{◌≡◌, ◌∙◌, ◌||◌, [], ◌∷◌, ℕ, suc, zero, ◌+◌, ◌-◌, ◌<◌, ◌≤◌, Bool, List, None, Ok, Err, Option, Result, Some, false, true, length, refl, ap, sym, subst, IfSome, slice_get, arith}
+use Rattle.std.proofs.Common.{◌≡◌, ◌∙◌, ◌||◌, ℕ, suc, zero, ◌+◌, ◌-◌, ◌<◌, List, None, Ok, Err, Option, Result, Some, true, ap, sym, subst, IfSome, slice_get, arith}
 use Rattle.std.specs.List.{remove}
 use Rattle.std.specs.Option.{option_and_then}
 use Rattle.std.proofs.lemmas.Bool.{cond-true}

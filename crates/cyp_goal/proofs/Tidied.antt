@@ -5,7 +5,7 @@ use Rattle.std.proofs.lemmas.Bool.{cond-false, cond-true}
 use Rattle.std.proofs.lemmas.List.{drop_at, drop_more, length-take-le, take_all, take_at, take_more, drop_all}
 use Rattle.std.proofs.lemmas.List.Edits.{length-remove}
 use Rattle.cyp_goal.specs.Tidying.{is_plainly_true}
-use Rattle.cyp_term.specs.Terms.{lit_eq, number_term, with_all_new, with_new}
+use Rattle.cyp_term.specs.Terms.{lit_eq, number_term, with_all_new}
 use Rattle.cyp_term.specs.declared.lit.Lit.{Lit}
 use Rattle.cyp_term.specs.declared.lit.Lit.TheVariants.{Eq}
 

@@ -1,6 +1,6 @@
 -- Tables of variables: one more variable, and how many fit.
-use Rattle.std.proofs.Common.{◌≡◌, ◌⊎◌, inl, inr, ◌∙◌, ◌||◌, ◌&&◌, [], ◌∷◌, ◌++◌, ◌+◌, ◌<◌, ◌≤◌, ◌==◌, Bool, List, true, false, cond, length, get_or, set, not, ℕ, zero, suc, refl, ap, ap₂, sym, ⊎_elim, arith, length-set, get_or-set_same, get_or-set_other, replicate, add-one, add-zero, subst, take}
-use Rattle.std.specs.List.{count_by, filter, list_any, sum_by}
+use Rattle.std.proofs.Common.{◌≡◌, ◌⊎◌, inl, inr, ◌∙◌, ◌||◌, ◌&&◌, [], ◌∷◌, ◌++◌, ◌+◌, ◌<◌, ◌≤◌, ◌==◌, Bool, List, true, false, cond, length, get_or, set, not, ℕ, suc, refl, ap, ap₂, sym, ⊎_elim, arith, length-set, get_or-set_same, get_or-set_other, replicate, add-one, add-zero, subst, take}
+use Rattle.std.specs.List.{count_by, filter}
 use Rattle.std.proofs.lemmas.Bool.{both_ways, cases_Bool, cases_eq, cond_both, cond-false, cond-true, false_from_ne_true}
 use Rattle.std.proofs.lemmas.List.{get_or-replicate, length-replicate, take_more_set}
 use Rattle.std.proofs.lemmas.List.Folds.{list_any-append, sum_by-replicate}

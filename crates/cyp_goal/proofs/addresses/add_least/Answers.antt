@@ -1,4 +1,3 @@
-use Rattle.std.proofs.Common.{◌≡◌, None, Some}
 use Rattle.cyp_goal.proofs.LeastTerms.{least_there}
 use Rattle.cyp_goal.proofs.addresses.add_least.Goals as goal
 

@@ -2,7 +2,7 @@ use Rattle.std.proofs.Common.{◌∙◌, ap, sym}
 use Rattle.std.specs.List.{flat_map}
 use Rattle.cyp_goal.proofs.AddressLits.{both_added}
 use Rattle.cyp_goal.proofs.Occurring.{all_occur}
-use Rattle.cyp_goal.specs.Tidying.{address, address_lits}
+use Rattle.cyp_goal.specs.Tidying.{address_lits}
 use Rattle.cyp_term.specs.Terms.{lit_eq, term_vars, var_eq, with_all_new, without_repeats}
 use Rattle.cyp_goal.proofs.addresses.with_addresses.Goals as goal
 

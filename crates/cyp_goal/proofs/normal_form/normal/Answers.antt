@@ -1,7 +1,6 @@
-use Rattle.std.proofs.Common.{◌∙◌, Option, Some, ap, subst, sym}
+use Rattle.std.proofs.Common.{◌∙◌, Option, subst, sym}
 use Rattle.cyp_goal.proofs.ReadyNodes.{normal_pruned, ready_pruned}
 use Rattle.cyp_goal.specs.Normal.{Renaming, solve}
-use Rattle.cyp_heap.specs.declared.goal.Node.{Node}
 use Rattle.cyp_term.specs.Answers.{GivesWhere}
 use Rattle.cyp_goal.proofs.normal_form.normal.Goals as goal
 

@@ -1,5 +1,5 @@
 use Rattle.std.proofs.Common.{◌∙◌, Some, sym, w64, FitsSigned, arith}
-use Rattle.std.proofs.lemmas.Int.{to_z-of_z, ints, fits_signed_from_abs}
+use Rattle.std.proofs.lemmas.Int.{to_z-of_z, ints}
 use Rattle.cyp_goal.proofs.NamedImages.{number_fits, term_numbered}
 use Rattle.cyp_goal.proofs.numbering.renamed_term.Goals as goal
 

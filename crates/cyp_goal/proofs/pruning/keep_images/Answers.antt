@@ -1,4 +1,4 @@
-use Rattle.std.proofs.Common.{◌≡◌, ◌∙◌, Bool, ap, rules}
+use Rattle.std.proofs.Common.{◌∙◌, Bool, ap, rules}
 use Rattle.std.specs.List.{filter, list_all}
 use Rattle.std.proofs.lemmas.Fn.{filter_same}
 use Rattle.cyp_goal.specs.Alive.{is_alive}

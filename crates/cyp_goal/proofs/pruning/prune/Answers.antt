@@ -1,7 +1,6 @@
-use Rattle.std.proofs.Common.{◌∙◌, ◌++◌, List, ap, map, not, sym}
+use Rattle.std.proofs.Common.{◌∙◌, ◌++◌, List, ap, not, sym}
 use Rattle.std.specs.List.{filter}
 use Rattle.cyp_goal.proofs.PruneTables.{pruned_by_tables}
-use Rattle.cyp_goal.specs.Alive.{alive_link}
 use Rattle.cyp_goal.specs.Pruning.{live_vars, prune}
 use Rattle.cyp_heap.specs.Chunks.{chunks_vars}
 use Rattle.cyp_heap.specs.Goals.{tuple_vars}

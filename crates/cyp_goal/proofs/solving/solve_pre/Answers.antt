@@ -1,4 +1,4 @@
-use Rattle.std.proofs.Common.{◌∙◌, ◌+◌, ◌-◌, ◌<◌, ap, length, refl, subst, sym}
+use Rattle.std.proofs.Common.{◌∙◌, ◌-◌, ◌<◌, ap, length, refl, subst, sym}
 use Rattle.std.proofs.lemmas.Result.{err_from_is_err_and}
 use Rattle.cyp_goal.proofs.SolvingTurns.{stays, turns_fail, turns_go_on}
 use Rattle.cyp_goal.specs.Solving.{is_logical, solve_pre, solved_eq, with_pre}

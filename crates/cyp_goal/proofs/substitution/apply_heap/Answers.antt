@@ -1,6 +1,6 @@
-use Rattle.std.proofs.Common.{IsTrue, ap, map, subst, sym}
+use Rattle.std.proofs.Common.{IsTrue, subst, sym}
 use Rattle.cyp_heap.proofs.Order.{applied_in_order}
-use Rattle.cyp_heap.specs.Chunks.{apply_chunk, in_order}
+use Rattle.cyp_heap.specs.Chunks.{in_order}
 use Rattle.cyp_goal.proofs.substitution.apply_heap.Goals as goal
 
 pub new-requires : goal.new-requires

@@ -1,4 +1,4 @@
-use Rattle.std.proofs.Common.{◌∙◌, arith, subst, sym}
+use Rattle.std.proofs.Common.{◌∙◌, arith}
 use Rattle.cyp_goal.proofs.Tidied.{on_by_test, out_by_test, within_rest}
 use Rattle.cyp_goal.proofs.tidying.tidy_lits.Goals as goal
 

@@ -1,4 +1,3 @@
-use Rattle.std.proofs.Common.{arith}
 use Rattle.cyp_goal.proofs.FirstPlaces.{is_first, is_no_first}
 use Rattle.cyp_goal.specs.SolvedSides.{solves}
 use Rattle.cyp_goal.proofs.equations.Unknowns.first.Goals as goal

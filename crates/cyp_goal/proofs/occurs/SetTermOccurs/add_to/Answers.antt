@@ -1,4 +1,4 @@
-use Rattle.std.proofs.Common.{◌∙◌, ap, ap₂}
+use Rattle.std.proofs.Common.{◌∙◌, ap}
 use Rattle.std.specs.List.{flat_map}
 use Rattle.cyp_goal.proofs.Occurring.{added_two, alone, set_parts_vars}
 use Rattle.cyp_term.specs.Terms.{term_vars, var_eq, with_all_new}

@@ -1,5 +1,4 @@
-use Rattle.std.proofs.Common.{sym, subst, refl, ap, ap₂, ◌+◌, ◌∙◌}
-use Rattle.cyp_goal.specs.VarTables.{IsPlaced}
+use Rattle.std.proofs.Common.{sym, ap₂, ◌+◌}
 use Rattle.cyp_goal.proofs.VarTables.{none_placed}
 use Rattle.cyp_term.specs.declared.term.Sort.TheVariants.{Card, Int, Set}
 use Rattle.cyp_goal.proofs.var_table.VarTable.new.Goals as goal
