@@ -75,6 +75,10 @@ matched_marks (Any s ∷ ms) (l ∷ ls) h p m (inl e) = subst (λ (x : Mark). Pr
 matched_marks (At s q ∷ ms) (l ∷ ls) h p m (inl e) = subst (λ (x : Mark). Proper (mark_said x)) (sym e) (subst (λ (x : Said). Proper x) h.0.0 (p l (inl refl)))
 matched_marks (n ∷ ms) (l ∷ ls) h p m (inr k) = matched_marks ms ls h.1 (λ x j. p x (inr j)) m k
 
+-- a tree that the tokens of a text spell has marks of tokens
+pub marks_of_tokens : (bytes : List ℕ) (ts : List Token) (t : TextTree) → tokens_of bytes ≡ Ok ts → Match (text_spelling t) (map (lexeme_of bytes) ts) → Marks (text_spelling t)
+marks_of_tokens bytes ts t e m = matched_marks (text_spelling t) (map (lexeme_of bytes) ts) m (lexeme_proper bytes ts (tokens_say bytes ts e))
+
 read_from : (size : ℕ) (ls : List Lexeme) (s : Specification) → ((l : Lexeme) → Among l ls → Proper l.said) → IsReadFrom size ls (Ok s) → TextRead s
 read_from size ls s p (inl a) = judged a.0 s (least_fault (name_faults a.0)) (least_fault (limit_faults a.0)) refl refl (matched_marks (text_spelling a.0) ls a.1 p) a.2
 read_from size ls s p (inr a) = absurd (differ a.2)
