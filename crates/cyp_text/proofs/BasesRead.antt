@@ -1,12 +1,11 @@
 -- How the code reads literals without `not`.
-use Rattle.std.proofs.Common.{Bool, Err, List, None, Ok, Option, Some, [], ap, false, refl, true, ◌∙◌, ◌∷◌, ◌≡◌, ◌⊎◌}
+use Rattle.std.proofs.Common.{Err, List, None, Ok, Option, Some, [], ap, false, refl, true, ◌∙◌, ◌∷◌, ◌≡◌}
 use Rattle.cyp_grammar.specs.Lexemes.{Lexeme, Number, Name, Reserved, Said, Symbol, Variable}
 use Rattle.cyp_grammar.specs.Readers.{Read, both, heads, is_there, is_word, left_by_second, stop, word_token, ◌>>=◌}
 use Rattle.cyp_grammar.specs.declared.want.Want.TheVariants.{AName, NoName}
 use Rattle.cyp_lex.specs.declared.token.Word.TheVariants.{In}
-use Rattle.cyp_lex.specs.declared.token.Sign.TheVariants.{AtLeast, AtMost, Equal, Greater, Less, Unequal}
 use Rattle.cyp_text.specs.ListReaders.{Refuses}
-use Rattle.cyp_text.specs.LitReaders.{Base, IntLit, Related, SetLit, base_at, base_tree, begins_base, comparison, comparison_of, int_base, int_lit, int_lit_base, is_comparison, is_set_tail, plain_base, related, related_base, set_base_at, set_lit, set_lit_base, set_sign}
+use Rattle.cyp_text.specs.LitReaders.{Base, IntLit, Related, SetLit, base_tree, comparison, comparison_of, int_base, int_lit, int_lit_base, is_comparison, is_set_tail, plain_base, related, set_base_at, set_lit, set_lit_base, set_sign}
 use Rattle.cyp_text.specs.PartLaws.{int_refuses, part_refuses}
 use Rattle.cyp_text.specs.TermReaders.{begins_int, begins_set, int_at, set_at, set_tree}
 use Rattle.cyp_text.specs.declared.lit_tree.BaseTree.{BaseTree}

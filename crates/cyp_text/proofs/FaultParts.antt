@@ -1,5 +1,5 @@
 -- The tokens before and behind the place where the reader stops.
-use Rattle.std.proofs.Common.{List, ap, arith, drop, get_or, length, map, subst, suc, sym, take, ℕ, ◌++◌, ◌-◌, ◌<◌, ◌≤◌, ◌∙◌, ◌∷◌, ◌≡◌}
+use Rattle.std.proofs.Common.{List, ap, arith, drop, get_or, length, map, suc, take, ℕ, ◌++◌, ◌-◌, ◌<◌, ◌≤◌, ◌∙◌}
 use Rattle.std.proofs.lemmas.List.{length-map}
 use Rattle.cyp_grammar.specs.Beginnings.{Begins}
 use Rattle.cyp_grammar.specs.Lexemes.{Lexeme, lexeme_of}

@@ -5,7 +5,7 @@ use Rattle.std.specs.List.{list_all, list_any}
 use Rattle.std.proofs.lemmas.Bool.{and_from}
 use Rattle.cyp_heap.specs.Chunks.{insts, is_inst}
 use Rattle.cyp_heap.specs.Formed.{inst_fits}
-use Rattle.cyp_heap.specs.PredsFormed.{insts_plain, is_productive, none_overlap, overlap}
+use Rattle.cyp_heap.specs.PredsFormed.{none_overlap, overlap}
 use Rattle.cyp_heap.specs.PredsFormed as formed
 use Rattle.cyp_heap.specs.declared.chunk.InstOf.{InstOf}
 use Rattle.cyp_lex.specs.declared.fault.FaultKind.TheVariants.{GuardsOverlap}

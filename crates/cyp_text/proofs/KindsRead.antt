@@ -9,13 +9,13 @@ use Rattle.cyp_lex.specs.declared.token.Sign.{Sign}
 use Rattle.cyp_term.specs.declared.fail.NoMemory.{NoMemory}
 use Rattle.cyp_text.proofs.TokensParted.{last_lexemes, no_token}
 use Rattle.cyp_grammar.specs.Lexemes.{Lexeme, Name, Number, Reserved, Said, Symbol, Variable, lexeme_of, said_by}
-use Rattle.cyp_lex.specs.declared.fault.FaultKind.TheVariants.{Expected, NotDifference, ReservedName}
+use Rattle.cyp_lex.specs.declared.fault.FaultKind.TheVariants.{Expected, ReservedName}
 use Rattle.cyp_lex.specs.declared.token.Sign.TheVariants.{Minus, Plus}
 use Rattle.cyp_lex.specs.declared.token.Token.{Token}
 use Rattle.cyp_lex.specs.declared.token.TokenKind.{TokenKind}
 use Rattle.cyp_lex.specs.declared.token.TokenKind.TheVariants as kinds
 use Rattle.cyp_lex.specs.declared.token.Word.{Word}
-use Rattle.cyp_text.specs.GrammarFaults.{AllowsName, EndsInFirstNumber, IsKind, SpoilsSum, TakesName, backwards, ends_sum, other, reserved, spoiled, spoils, wants_name, wants_number}
+use Rattle.cyp_text.specs.GrammarFaults.{AllowsName, EndsInFirstNumber, IsKind, SpoilsSum, TakesName, backwards, ends_sum, other, reserved, spoils, wants_name, wants_number}
 use Rattle.cyp_text.specs.Stopping.{Tells, TellsName}
 use Rattle.cyp_text.proofs.Parted.{no_end, one_last}
 

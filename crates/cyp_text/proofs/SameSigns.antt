@@ -1,5 +1,5 @@
 -- The code's test of two symbols is that of the definitions.
-use Rattle.std.proofs.Common.{◌≡◌, refl, Some}
+use Rattle.std.proofs.Common.{◌≡◌, refl}
 use denote.Enum.Bare.{sameb}
 use Rattle.cyp_grammar.specs.SignTests.{same_sign}
 use Rattle.cyp_lex.specs.contracts.token.Sign.{the_type}

@@ -1,8 +1,7 @@
 -- What the place where the reader stops tells of the fault.
-use Rattle.std.proofs.Common.{Err, List, Ok, Result, [], ap, append-nil, append_assoc, arith, false, inl, inr, length, length-append, refl, subst, suc, sym, true, ℕ, ◌++◌, ◌<◌, ◌≤◌, ◌∙◌, ◌∷◌, ◌≡◌}
-use Rattle.std.specs.Prelude.{Bool}
+use Rattle.std.proofs.Common.{Err, List, Ok, Result, [], ap, append-nil, append_assoc, arith, inl, inr, length, length-append, refl, subst, suc, sym, ℕ, ◌++◌, ◌<◌, ◌≤◌, ◌∙◌, ◌∷◌, ◌≡◌}
 use Rattle.cyp_grammar.specs.Beginnings.{Begins, Refused}
-use Rattle.cyp_grammar.specs.Lexemes.{Lexeme, Name, Number, Reserved, Said, Symbol, Variable}
+use Rattle.cyp_grammar.specs.Lexemes.{Lexeme}
 use Rattle.cyp_grammar.specs.Readers.{IsNamed, Read, Stop, end_by, is_word, one_of, whole_of, ◌>>=◌}
 use Rattle.cyp_lex.specs.declared.token.Word.TheVariants.{Predicate, Void}
 use Rattle.cyp_grammar.specs.Spelling.{IsEnd, Match}

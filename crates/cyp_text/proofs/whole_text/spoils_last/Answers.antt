@@ -1,5 +1,4 @@
 use Rattle.std.proofs.Common.{List, [], ap, map, sym, take, length, ◌-◌, ◌∙◌}
-use Rattle.std.specs.Prelude.{slice_range}
 use Rattle.cyp_grammar.specs.Lexemes.{Said, lexeme_of, said_by}
 use Rattle.cyp_text.specs.GrammarFaults.{backwards, spoils}
 use Rattle.cyp_text.proofs.KindsRead.{few_spoil}

@@ -1,5 +1,4 @@
-use Rattle.std.proofs.Common.{List, Ok, ap, map, refl, sym, ◌<◌, ◌∙◌, ◌≡◌, length, subst}
-use Rattle.cyp_grammar.specs.Lexemes.{lexeme_of, Lexeme}
+use Rattle.std.proofs.Common.{Ok, sym, ◌<◌, ◌≡◌, length}
 use Rattle.cyp_text.specs.TextReaders.{text_at}
 use Rattle.cyp_text.proofs.StopFaults.{whole_reads_on}
 use Rattle.cyp_text.proofs.whole_text.whole.Goals as goal

@@ -1,4 +1,4 @@
-use Rattle.std.proofs.Common.{◌≡◌, sym}
+use Rattle.std.proofs.Common.{sym}
 use Rattle.cyp_text.proofs.LitParts.{base_of_negated}
 use Rattle.cyp_text.proofs.lit_tree.LitTree.base.Goals as goal
 

@@ -1,8 +1,8 @@
-use Rattle.std.proofs.Common.{Err, List, ap, refl, rules, sym, ◌∙◌, ◌≡◌, false}
-use Rattle.cyp_grammar.specs.Readers.{enclosed, heads, is_sign, sign_token}
+use Rattle.std.proofs.Common.{Err, refl, rules, sym, ◌∙◌, ◌≡◌, false}
+use Rattle.cyp_grammar.specs.Readers.{enclosed, sign_token}
 use Rattle.cyp_lex.specs.declared.token.Sign.TheVariants.{Comma}
 use Rattle.cyp_text.specs.ListReaders.{parts_list}
-use Rattle.cyp_text.proofs.PartsRead.{closed_parts, enclosed_is, stops_with}
+use Rattle.cyp_text.proofs.PartsRead.{enclosed_is, stops_with}
 use Rattle.cyp_text.proofs.parser.Parser.enclosed.Goals as goal
 
 pub returns-in_err-parts : goal.returns-in_err-parts

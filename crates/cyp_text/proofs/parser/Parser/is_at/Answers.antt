@@ -1,4 +1,4 @@
-use Rattle.std.proofs.Common.{◌≡◌, List, ℕ, Some, sym, ◌∙◌, ap, [], ◌∷◌, subst}
+use Rattle.std.proofs.Common.{◌≡◌, List, Some, sym, ◌∙◌, ap, [], ◌∷◌, subst}
 use Rattle.cyp_grammar.specs.Lexemes.{Lexeme}
 use Rattle.cyp_grammar.specs.Readers.{heads, is_sign}
 use Rattle.cyp_grammar.specs.SignTests.{same_sign}

@@ -1,6 +1,6 @@
-use Rattle.std.proofs.Common.{List, ap, refl, rules, sym, ◌∙◌, ◌≡◌, Err}
+use Rattle.std.proofs.Common.{refl, rules, sym, ◌∙◌, ◌≡◌, Err}
 use Rattle.cyp_text.specs.ListReaders.{many}
-use Rattle.cyp_text.proofs.Many.{done, loop_ends, loop_goes_on, loop_stops}
+use Rattle.cyp_text.proofs.Many.{loop_ends, loop_goes_on, loop_stops}
 use Rattle.cyp_text.proofs.PartsRead.{stops_with}
 use Rattle.cyp_text.proofs.parser.Parser.items.Goals as goal
 

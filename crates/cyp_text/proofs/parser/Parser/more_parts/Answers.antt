@@ -1,5 +1,4 @@
-use Rattle.std.proofs.Common.{List, ap, refl, rules, sym, ◌∙◌, ◌≡◌, Err}
-use Rattle.cyp_grammar.specs.Readers.{is_sign}
+use Rattle.std.proofs.Common.{rules, sym, ◌∙◌, ◌≡◌, Err}
 use Rattle.cyp_text.specs.ListReaders.{behind, more_parts_in}
 use Rattle.cyp_text.proofs.PartsRead.{parts_end, parts_go_on, parts_stop, stops_with}
 use Rattle.cyp_text.proofs.parser.Parser.more_parts.Goals as goal

@@ -1,4 +1,4 @@
-use Rattle.std.proofs.Common.{refl, ◌∙◌, ◌≡◌}
+use Rattle.std.proofs.Common.{refl, ◌∙◌}
 use Rattle.cyp_text.proofs.PartsRead.{first_and_others}
 use Rattle.cyp_text.proofs.parser.Parser.parts.Goals as goal
 

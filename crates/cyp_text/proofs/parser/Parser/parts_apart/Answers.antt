@@ -1,4 +1,4 @@
-use Rattle.std.proofs.Common.{List, ap, arith, length, refl, rules, sym, ◌∙◌, ◌≡◌, Err, [], ◌≤◌}
+use Rattle.std.proofs.Common.{arith, length, refl, rules, sym, ◌∙◌, ◌≡◌, Err, [], ◌≤◌}
 use Rattle.cyp_grammar.specs.Readers.{is_sign, listing, sign_token}
 use Rattle.cyp_text.specs.ListReaders.{more_parts_in}
 use Rattle.cyp_text.proofs.PartsRead.{apart_is, stops_with}

@@ -1,8 +1,5 @@
 use Rattle.std.proofs.Common.{Err, refl, rules, ◌≡◌}
-use Rattle.cyp_grammar.specs.Readers.{ident_token, is_word, word_token}
-use Rattle.cyp_lex.specs.declared.token.Word.TheVariants.{Predicate, Void}
-use Rattle.cyp_text.specs.ListReaders.{many}
-use Rattle.cyp_text.specs.TextReaders.{braced_at, params_at, pred_at, text_at}
+use Rattle.cyp_text.specs.TextReaders.{braced_at, text_at}
 use Rattle.cyp_text.proofs.PartsRead.{stops_with}
 use Rattle.cyp_text.proofs.parser.Parser.text.Goals as goal
 
