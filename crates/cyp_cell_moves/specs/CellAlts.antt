@@ -1,5 +1,5 @@
 -- The rows and moves of nodes that those of cells alone stand for.
-use Rattle.std.specs.Prelude.{List, map}
+use Rattle.std.specs.Prelude.{map}
 use Rattle.std.specs.List.{All}
 use Rattle.cyp_heap.specs.declared.goal.Node.{Node}
 use Rattle.cyp_moves.specs.Moves.{priced}

@@ -1,5 +1,5 @@
 -- What a rule leaves at a goal of cells alone, before the normal form.
-use Rattle.std.specs.Prelude.{List, None, Option, Some, cond, slice_get, ℕ}
+use Rattle.std.specs.Prelude.{None, Option, Some, cond, slice_get, ℕ}
 use Rattle.cyp_cells.specs.CellMoves.{first_at, frame_at, read_at, write_at}
 use Rattle.cyp_cells.specs.declared.flat.Flat.{Flat}
 use Rattle.cyp_cells.specs.declared.flat.FlatCell.{FlatCell}

@@ -6,3 +6,6 @@ mod read;
 pub use cyp_text::Spec;
 pub use cyp_writing::write_spec;
 pub use read::read_spec;
+
+#[cfg(test)]
+mod tests;
