@@ -1,7 +1,6 @@
 use crate::{read_spec, write_spec};
 use cyp_lex::Fault;
-use cyp_term::Fail as Refusal;
-use cyp_term::{NoMemory, Text};
+use cyp_term::{Fail as Refusal, NoMemory, Text};
 use std::alloc::Global;
 use std::test::Fail;
 
@@ -61,6 +60,9 @@ fn refusal(alloc: Global, text: &[u8]) -> Result<Option<Fault>, NoMemory> {
 #[test]
 fn an_empty_text_is_refused(rt: HostRuntime) -> Result<(), Fail> {
     let fault = refusal(rt.alloc(), b"")?;
-    assert_eq!(rt; fault.is_some_and(|fault| fault.place == 0 && fault.kind.number() == 13), true);
+    assert_eq!(rt;
+        fault.is_some_and(|fault| fault.place == 0 && fault.kind.number() == 13),
+        true
+    );
     Ok(())
 }
