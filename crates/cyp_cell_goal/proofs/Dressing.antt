@@ -2,7 +2,7 @@
 use Rattle.std.proofs.Common.{List, None, Option, Some, [], ap, is_some, map, option_map, refl, sym, true, ◌∙◌, ◌∷◌, ◌≡◌}
 use Rattle.cyp_goal.proofs.DressedNormal.{dressing_law}
 use Rattle.cyp_goal.specs.Dressed.{dressed, dressed_renaming, resized, resized_goal}
-use Rattle.cyp_goal.specs.Normal.{Renaming, normal}
+use Rattle.cyp_goal.specs.Normal.{normal}
 use Rattle.cyp_heap.specs.declared.chunk.Chunk.{Chunk}
 use Rattle.cyp_heap.specs.declared.chunk.Chunk.TheVariants.{Block, Cell, Inst}
 use Rattle.cyp_heap.specs.declared.goal.Goal.{Goal}

@@ -1,5 +1,5 @@
 -- A flat goal is the goal that its small value stands for.
-use Rattle.std.proofs.Common.{Bool, IsTrue, List, None, Option, Some, [], arith, eqb-true, false, length, map, pos, refl, sym, true, ℕ, ℤ, ◌&&◌, ◌==◌, ◌∙◌, ◌∷◌, ◌≡◌, ◌||◌, ap}
+use Rattle.std.proofs.Common.{Bool, IsTrue, List, None, Option, Some, [], eqb-true, length, map, pos, refl, sym, true, ℕ, ℤ, ◌&&◌, ◌==◌, ◌∷◌, ◌≡◌}
 use Rattle.std.specs.List.{list_all}
 use Rattle.std.specs.Ordering.{int_eq}
 use Rattle.std.proofs.lemmas.Bool.{and_parts, false≢true}
@@ -17,7 +17,7 @@ use Rattle.cyp_term.specs.declared.term.Sort.TheVariants.{Card, Int, Set}
 use Rattle.cyp_term.specs.declared.term.Term.{Term}
 use Rattle.cyp_term.specs.declared.term.Var.{Var}
 use Rattle.cyp_text.specs.Specifications.{Specification}
-use Rattle.cyp_cell_goal.specs.FlatGoals.{cells_node, has_variable, is_content, is_flat, is_flat_chunk, is_flat_goal, is_int, is_variable}
+use Rattle.cyp_cell_goal.specs.FlatGoals.{cells_node, has_variable, is_content, is_flat_chunk, is_flat_goal, is_int, is_variable}
 use Rattle.cyp_cell_goal.specs.FlatOf.{flat_cell, flat_cells, flat_goal, flat_term, flat_term_by, numbers_of}
 
 -- ---- terms

@@ -1,5 +1,5 @@
 -- The small value of a flat goal that is formed is as the normal form asks.
-use Rattle.std.proofs.Common.{IsTrue, List, None, Option, Some, [], ap, false, map, not, pos, refl, subst, sym, true, ℕ, ℤ, ◌&&◌, ◌++◌, ◌∙◌, ◌∷◌, ◌≡◌}
+use Rattle.std.proofs.Common.{IsTrue, List, None, Option, Some, [], ap, map, not, pos, refl, subst, sym, true, ℕ, ℤ, ◌++◌, ◌∙◌, ◌∷◌, ◌≡◌}
 use Rattle.std.specs.List.{list_all}
 use Rattle.std.specs.Ordering.{int_eq}
 use Rattle.std.proofs.lemmas.Bool.{and_from, and_parts, false≢true}

@@ -1,5 +1,5 @@
 -- Worked rows: which specifications are flat, and their roots.
-use Rattle.std.proofs.Common.{None, Option, Some, [], List, map, negsuc, pos, refl, true, false, ℕ, ℤ, ◌∷◌, ◌≡◌}
+use Rattle.std.proofs.Common.{Some, [], List, map, negsuc, pos, refl, true, false, ℕ, ◌∷◌, ◌≡◌}
 use Rattle.std.specs.Prelude.{codes}
 use Rattle.cyp_cells.specs.Cells.{int_var, node_of}
 use Rattle.cyp_cells.specs.declared.flat.FlatCell.{FlatCell}

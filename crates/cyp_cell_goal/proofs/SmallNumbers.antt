@@ -1,5 +1,5 @@
 -- Numbers of flat cells are at most 2^32 in size.
-use Rattle.std.proofs.Common.{IsTrue, List, Option, [], arith, nat_abs, negsuc, pos, refl, suc, true, ℕ, ℤ, ◌&&◌, ◌++◌, ◌-◌, ◌^◌, ◌∙◌, ◌∷◌, ◌≡◌, ◌≤◌, ◌≤ℤ◌}
+use Rattle.std.proofs.Common.{IsTrue, List, Option, [], arith, nat_abs, negsuc, pos, refl, suc, true, ℤ, ◌++◌, ◌-◌, ◌^◌, ◌∙◌, ◌∷◌, ◌≡◌, ◌≤◌, ◌≤ℤ◌}
 use Rattle.std.specs.List.{list_all}
 use Rattle.std.specs.Prelude.{nat_le}
 use Rattle.std.proofs.lemmas.Bool.{and_from, le-leb}

@@ -1,29 +1,24 @@
 -- Frames and writes at a goal of cells alone, before the normal form.
-use Rattle.std.proofs.Common.{◌≡◌, ◌∙◌, ◌+◌, ◌++◌, ◌||◌, ◌&&◌, ◌==◌, ℕ, zero, suc, List, [], ◌∷◌, map, filter, Option, Some, None, option_map, Bool, true, false, not, cond, refl, sym, ap, arith, append-nil, inl, inr, eqb}
-use Rattle.std.specs.Prelude.{slice_get, slice_set}
+use Rattle.std.proofs.Common.{◌≡◌, ◌∙◌, ◌+◌, ◌++◌, ◌||◌, ◌&&◌, ◌==◌, ℕ, zero, suc, List, [], ◌∷◌, map, filter, Option, Some, None, option_map, Bool, true, false, cond, refl, ap, arith, append-nil}
+use Rattle.std.specs.Prelude.{slice_get}
 use Rattle.std.specs.List.{list_all}
-use Rattle.std.proofs.lemmas.Bool.{eq-eqb, false_from_ne_true}
+use Rattle.std.proofs.lemmas.Bool.{eq-eqb}
 use Rattle.std.proofs.lemmas.Bool.Decides.{nat_tests}
 use Rattle.std.proofs.lemmas.Option.{slice_get-map}
-use Rattle.cyp_term.proofs.Lists.{Among}
 use Rattle.cyp_term.specs.declared.lit.Lit.{Lit}
-use Rattle.cyp_term.specs.declared.lit.Lit.TheVariants.{Eq}
 use Rattle.cyp_heap.specs.declared.chunk.Chunk.{Chunk}
 use Rattle.cyp_heap.specs.declared.goal.Node.{Node}
 use Rattle.cyp_heap.specs.Chunks.{without}
 use Rattle.cyp_unify.specs.declared.found.Pair.{Pair}
-use Rattle.cyp_unify.specs.Frames.{alike, focus, frame_lits, frame_pairs, with_places}
+use Rattle.cyp_unify.specs.Frames.{alike, frame_lits, with_places}
 use Rattle.cyp_step.specs.Changes.{Raws, add_post, add_pre, post_of, pre_of}
-use Rattle.cyp_step.specs.FlatRules.{first_place, is_cell_at, is_place, pair_at, raw_frame, raw_write}
+use Rattle.cyp_step.specs.FlatRules.{pair_at, raw_frame}
 use Rattle.cyp_step.specs.Shown.{is_open, shown}
 use Rattle.cyp_cells.specs.declared.flat.Flat.{Flat}
 use Rattle.cyp_cells.specs.declared.flat.FlatCell.{FlatCell}
 use Rattle.cyp_cells.specs.declared.flat.FlatEquation.{FlatEquation}
-use Rattle.cyp_cells.specs.declared.flat.FlatTerm.{FlatTerm}
-use Rattle.cyp_cells.specs.Cells.{all_numbers, cell_of, cells_numbers, equation_of, goal_of, node_of, positive_of, same_term, term_of, term_numbers}
-use Rattle.cyp_cells.specs.CellMoves.{IsCells, first_at, frame_at, has_existential, is_consistent, is_program_term, may_equal, without_at, write_at}
-use Rattle.cyp_cell_moves.proofs.CellTerms.{is_open-equation, is_program_expr-term_of, has_exist-term_of}
-use Rattle.cyp_cell_moves.proofs.CellFits.{HasKnown}
+use Rattle.cyp_cells.specs.Cells.{cell_of, equation_of, goal_of, node_of, positive_of}
+use Rattle.cyp_cells.specs.CellMoves.{IsCells, frame_at, is_consistent, may_equal, without_at}
 use Rattle.cyp_cell_moves.proofs.CellKnown.{BothKnown, known-post, known-pre}
 use Rattle.cyp_cell_moves.proofs.CellShown.{may_equal-equation}
 

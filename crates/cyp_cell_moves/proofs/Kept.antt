@@ -6,7 +6,7 @@ use Rattle.cyp_cells.specs.declared.flat.Flat.{Flat}
 use Rattle.cyp_cells.specs.Cells.{all_numbers, among, cells_numbers}
 use Rattle.cyp_cells.specs.CellNormal.{is_flat_within, normal_flat}
 use Rattle.cyp_cells.specs.declared.flat.FlatRenaming.{FlatRenaming}
-use Rattle.cyp_cells.specs.CellMoves.{IsCells, are_used}
+use Rattle.cyp_cells.specs.CellMoves.{IsCells}
 use Rattle.cyp_cell_moves.proofs.Members.{all_among, all_from_among}
 use Rattle.cyp_cell_moves.proofs.NormalKeeps.{normal_is, normal_well_formed}
 use Rattle.cyp_cell_moves.proofs.Numbered.{normal_numbered}

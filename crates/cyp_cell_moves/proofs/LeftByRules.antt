@@ -1,12 +1,11 @@
 -- What the rules leave at a goal of cells alone is raw and consistent, where the goal is.
-use Rattle.std.proofs.Common.{◌≡◌, ◌∙◌, ℕ, List, [], ◌∷◌, length, map, filter, Option, Some, None, Bool, true, false, not, cond, IsTrue, refl, sym, ap}
+use Rattle.std.proofs.Common.{◌≡◌, ◌∙◌, ℕ, [], length, map, filter, Option, Some, None, Bool, true, false, not, cond, refl, sym, ap}
 use Rattle.std.specs.Prelude.{slice_get}
 use Rattle.std.proofs.lemmas.Option.{none-some}
 use Rattle.cyp_step.specs.FlatRules.{is_place}
 use Rattle.cyp_term.specs.Terms.{without_repeats}
 use Rattle.cyp_cells.specs.declared.flat.Flat.{Flat}
 use Rattle.cyp_cells.specs.declared.flat.FlatCell.{FlatCell}
-use Rattle.cyp_cells.specs.declared.flat.FlatEquation.{FlatEquation}
 use Rattle.cyp_cells.specs.Cells.{all_numbers, once}
 use Rattle.cyp_cells.specs.CellNormal.{is_alike, normal_flat, rename_equation, same_equation, solve_flat}
 use Rattle.cyp_cells.specs.declared.flat.FlatRenaming.{FlatRenaming}
@@ -19,7 +18,7 @@ use Rattle.cyp_cell_moves.proofs.PlainCells.{IsPlain}
 use Rattle.cyp_cell_moves.proofs.ReadKeeps.{read_at_is, read_raw}
 use Rattle.cyp_cell_moves.proofs.RowOfCells.{LeavesRaw}
 use Rattle.cyp_cell_moves.proofs.WellFormed.{IsRaw}
-use Rattle.cyp_cell_moves.proofs.WritesOfCells.{write_by, write_here}
+use Rattle.cyp_cell_moves.proofs.WritesOfCells.{write_by}
 
 -- a raw goal is a plain one
 pub plain_from_raw : (g : Flat) → IsRaw g → IsPlain g

@@ -1,29 +1,23 @@
 -- The moves of a goal of cells alone are those of the general move table.
-use Rattle.std.proofs.Common.{◌≡◌, ◌∙◌, ◌&&◌, ◌==◌, ◌+◌, ◌<◌, ◌≤◌, ◌++◌, ℕ, zero, suc, List, [], ◌∷◌, map, filter, length, take, Option, Some, None, option_map, option_and_then, option_to_list, Bool, true, false, not, cond, IsTrue, refl, sym, ap, subst, arith, append-nil}
+use Rattle.std.proofs.Common.{◌≡◌, ◌∙◌, ◌&&◌, ◌==◌, ◌+◌, ◌<◌, ◌≤◌, ℕ, zero, suc, List, [], ◌∷◌, map, length, Option, Some, None, option_map, option_and_then, option_to_list, Bool, true, false, cond, refl, sym, ap, arith}
 use Rattle.std.specs.Prelude.{slice_get}
 use Rattle.std.specs.List.{filter_map, cons_option}
 use Rattle.std.proofs.lemmas.Bool.{eq-eqb, eqb-true, false_from_ne_true}
-use Rattle.std.proofs.lemmas.List.{length-map, map-append, take_all}
-use Rattle.std.proofs.lemmas.Option.{none-some, same_Some, slice_get-map}
+use Rattle.std.proofs.lemmas.List.{length-map}
+use Rattle.std.proofs.lemmas.Option.{none-some, same_Some}
 use Rattle.cyp_heap.specs.declared.goal.Node.{Node}
 use Rattle.cyp_pred.specs.Unfold.{count_from}
-use Rattle.cyp_call.specs.CallRows.{call_rows}
-use Rattle.cyp_flat.specs.FlatRows.{heap_rows, lone_rows, pick_rows}
-use Rattle.cyp_unfold.specs.UnfoldRows.{close_rows, closable, open_rows, openable}
-use Rattle.cyp_moves.specs.Moves.{cost_of, is_any, is_built, moves, moves_of_kinds, of_kinds, priced, table}
+use Rattle.cyp_moves.specs.Moves.{cost_of}
 use Rattle.cyp_space.specs.Alts.{AltOf}
-use Rattle.cyp_step.specs.Changes.{post_of, pre_of}
-use Rattle.cyp_step.specs.FlatRules.{is_place, raw_alloc, raw_free}
-use Rattle.cyp_step.specs.Rows.{first_of_all, least_allowed, pre_places, row, rows}
-use Rattle.cyp_step.specs.Shown.{dead}
-use Rattle.cyp_step.specs.Step.{all_normal, nodes_of, premises, renamed_premises}
+use Rattle.cyp_step.specs.FlatRules.{is_place}
+use Rattle.cyp_step.specs.Rows.{least_allowed, row, rows}
+use Rattle.cyp_step.specs.Step.{all_normal, nodes_of, premises}
 use Rattle.cyp_step.specs.declared.rule.Row.{Row}
 use Rattle.cyp_step.specs.declared.rule.Rule.{Rule}
-use Rattle.cyp_step.specs.declared.rule.Rule.TheVariants.{ByAlloc, ByClose, ByEmp, ByFrame, ByFree, ByInconsistent, ByOpen, ByRead, ByWrite}
+use Rattle.cyp_step.specs.declared.rule.Rule.TheVariants.{ByEmp, ByFrame, ByInconsistent, ByRead, ByWrite}
 use Rattle.cyp_term.specs.Entailment.{satisfiable}
 use Rattle.cyp_goal.specs.Facts.{facts}
 use Rattle.cyp_step.specs.Shown.{shown}
-use Rattle.cyp_unify.specs.Frames.{focus}
 use Rattle.cyp_cells.specs.declared.flat.Flat.{Flat}
 use Rattle.cyp_cells.specs.declared.flat.FlatCell.{FlatCell}
 use Rattle.cyp_cells.specs.declared.flat.FlatEquation.{FlatEquation}
@@ -32,16 +26,14 @@ use Rattle.cyp_cell_moves.proofs.LeftByRules.{frame_leaves, normal_clear, plain_
 use Rattle.cyp_cells.specs.Cells.{cell_of, equation_of, goal_of, int_var, node_of, same_term}
 use Rattle.cyp_cells.specs.CellNormal.{normal_flat}
 use Rattle.cyp_cells.specs.declared.flat.FlatRenaming.{FlatRenaming}
-use Rattle.cyp_cells.specs.CellMoves.{IsCells, first_at, flat_moves, flat_row, frame_at, frame_row, frame_rows, heap_moves, is_consistent, is_done, last_row, read_at, read_row, read_rows_from, write_at, write_focus, write_rows, write_to}
-use Rattle.cyp_cell_moves.proofs.CellDead.{dead_not-clear, dead_not-inconsistent}
+use Rattle.cyp_cells.specs.CellMoves.{IsCells, first_at, flat_row, frame_at, frame_row, is_consistent, is_done, read_at, read_rows_from, write_at, write_focus, write_to}
 use Rattle.cyp_cell_moves.proofs.CellModels.{satisfiable-facts}
 use Rattle.cyp_cell_moves.proofs.CellShown.{shown-nil}
 use Rattle.cyp_cell_moves.proofs.ClearCells.{clear_from_cells}
-use Rattle.cyp_cell_moves.proofs.Limits.{few_moves}
-use Rattle.cyp_cell_moves.proofs.ListedRows.{filter_map-places, filter_map_none, filter_map_one, least_allowed-none, of_kinds-append, of_kinds-rows}
+use Rattle.cyp_cell_moves.proofs.ListedRows.{filter_map-places, filter_map_none, filter_map_one}
 use Rattle.cyp_cell_moves.proofs.PremisesOfCells.{one_renaming, premises_frame, premises_read, premises_write}
-use Rattle.cyp_cell_moves.proofs.RowOfCells.{LeavesRaw, row-node_of, row_by}
-use Rattle.cyp_cell_moves.proofs.WritesOfCells.{write_by, write_here}
+use Rattle.cyp_cell_moves.proofs.RowOfCells.{row-node_of, row_by}
+use Rattle.cyp_cell_moves.proofs.WritesOfCells.{write_by}
 use Rattle.cyp_cell_moves.specs.CellAlts.{row_of}
 
 -- the kinds of row that goals of cells alone have

@@ -1,12 +1,11 @@
 -- What the rules leave at a goal of cells alone, in normal form.
-use Rattle.std.proofs.Common.{◌≡◌, ◌∙◌, ◌&&◌, ℕ, List, [], ◌∷◌, map, Option, Some, None, option_map, option_and_then, Bool, true, false, not, cond, IsTrue, nat_le, refl, sym, ap}
+use Rattle.std.proofs.Common.{◌≡◌, ◌∙◌, ◌&&◌, ℕ, List, [], ◌∷◌, Option, Some, None, option_map, option_and_then, Bool, true, false, not, cond, nat_le, refl, sym, ap}
 use Rattle.std.specs.Prelude.{slice_get}
-use Rattle.std.proofs.lemmas.Bool.{true≢false, false≢true}
 use Rattle.std.proofs.lemmas.Option.{slice_get-map}
 use Rattle.cyp_heap.specs.declared.goal.Node.{Node}
 use Rattle.cyp_heap.specs.Goals.{wide_node}
 use Rattle.cyp_goal.specs.Normal.{Renaming, normal}
-use Rattle.cyp_step.specs.Changes.{Raws, where_true}
+use Rattle.cyp_step.specs.Changes.{where_true}
 use Rattle.cyp_step.specs.FlatRules.{occurs_elsewhere, raw_read}
 use Rattle.cyp_step.specs.Shown.{is_program_expr}
 use Rattle.cyp_step.specs.Step.{all_normal, raws, renamed_premises}

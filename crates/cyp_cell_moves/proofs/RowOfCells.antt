@@ -1,8 +1,7 @@
 -- A row of the move table at a goal of cells alone.
-use Rattle.std.proofs.Common.{◌≡◌, ◌∙◌, ◌||◌, ℕ, List, [], ◌∷◌, map, Option, Some, None, option_map, option_and_then, Bool, true, false, cond, IsTrue, refl, sym, ap, subst}
-use Rattle.std.specs.List.{list_any, filter_map}
+use Rattle.std.proofs.Common.{◌≡◌, ◌∙◌, ◌||◌, List, [], ◌∷◌, Option, Some, None, option_map, option_and_then, Bool, true, false, refl, ap}
+use Rattle.std.specs.List.{list_any}
 use Rattle.cyp_heap.specs.declared.goal.Node.{Node}
-use Rattle.cyp_goal.specs.Normal.{Renaming}
 use Rattle.cyp_moves.specs.Moves.{cost_of}
 use Rattle.cyp_space.specs.Alts.{AltOf}
 use Rattle.cyp_step.specs.Rows.{row}

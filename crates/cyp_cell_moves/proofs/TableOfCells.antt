@@ -1,11 +1,10 @@
 -- The move table of a goal of cells alone, and its moves.
-use Rattle.std.proofs.Common.{◌≡◌, ◌∙◌, ◌++◌, ◌≤◌, ℕ, zero, suc, List, [], ◌∷◌, map, length, take, Option, Some, None, option_map, Bool, true, false, refl, sym, ap, subst, append-nil, arith}
+use Rattle.std.proofs.Common.{◌≡◌, ◌∙◌, ◌++◌, ◌≤◌, ℕ, suc, List, [], ◌∷◌, map, length, take, Option, Some, None, option_map, Bool, true, false, refl, sym, ap, subst, append-nil, arith}
 use Rattle.std.specs.Prelude.{slice_get, filter}
 use Rattle.std.specs.Option.{option_and_then}
-use Rattle.std.specs.List.{filter_map, cons_option}
+use Rattle.std.specs.List.{cons_option}
 use Rattle.std.proofs.lemmas.List.{length-map, map-append, take_all}
 use Rattle.std.proofs.lemmas.Option.{slice_get-map}
-use Rattle.cyp_heap.specs.declared.chunk.Chunk.{Chunk}
 use Rattle.cyp_heap.specs.declared.goal.Node.{Node}
 use Rattle.cyp_pred.specs.Unfold.{count_from}
 use Rattle.cyp_call.specs.CallRows.{call_rows}
@@ -14,7 +13,7 @@ use Rattle.cyp_unfold.specs.UnfoldRows.{closable, close_rows, open_rows, openabl
 use Rattle.cyp_moves.specs.Moves.{is_any, is_built, moves, moves_of_kinds, of_kinds, priced, table}
 use Rattle.cyp_space.specs.Alts.{AltOf}
 use Rattle.cyp_step.specs.FlatRules.{raw_alloc, raw_free}
-use Rattle.cyp_step.specs.Rows.{first_of_all, least_allowed, pre_places, row, rows}
+use Rattle.cyp_step.specs.Rows.{first_of_all, least_allowed, pre_places, rows}
 use Rattle.cyp_step.specs.Shown.{dead}
 use Rattle.cyp_step.specs.Step.{all_normal, nodes_of}
 use Rattle.cyp_step.specs.declared.rule.Row.{Row}
@@ -25,13 +24,12 @@ use Rattle.cyp_cells.specs.declared.flat.Flat.{Flat}
 use Rattle.cyp_cells.specs.declared.flat.FlatCell.{FlatCell}
 use Rattle.cyp_cells.specs.declared.flat.FlatEquation.{FlatEquation}
 use Rattle.cyp_cells.specs.Cells.{cell_of, equation_of, goal_of, node_of}
-use Rattle.cyp_cells.specs.CellMoves.{IsCells, flat_moves, flat_row, frame_rows, heap_moves, is_consistent, is_done, last_row, read_rows_from, write_focus, write_rows}
+use Rattle.cyp_cells.specs.CellMoves.{IsCells, flat_moves, frame_rows, heap_moves, is_consistent, is_done, last_row, read_rows_from, write_rows}
 use Rattle.cyp_cell_moves.proofs.CellDead.{dead_not-clear, dead_not-inconsistent}
 use Rattle.cyp_cell_moves.proofs.Limits.{few_moves}
 use Rattle.cyp_cell_moves.proofs.ListedRows.{least_allowed-none, of_kinds-append, of_kinds-least, of_kinds-rows}
-use Rattle.cyp_cell_moves.proofs.MovesOfCells.{Covers, contradiction_by, contradiction_rows, end_by, end_rows, frames, length_cells, read_rows, write_row, writes, written_rows}
+use Rattle.cyp_cell_moves.proofs.MovesOfCells.{Covers, contradiction_by, contradiction_rows, end_by, end_rows, frames, length_cells, read_rows, writes, written_rows}
 use Rattle.cyp_cell_moves.proofs.RowOfCells.{row_by}
-use Rattle.cyp_cell_moves.proofs.WritesOfCells.{write_by}
 use Rattle.cyp_cell_moves.specs.CellAlts.{alt_of, row_of}
 
 -- ---- the rows that stand alone

@@ -1,14 +1,13 @@
 -- The write at a goal of cells alone, before the normal form.
-use Rattle.std.proofs.Common.{◌≡◌, ◌∙◌, ◌++◌, ◌&&◌, ◌==◌, ℕ, zero, suc, List, [], ◌∷◌, map, Option, Some, None, option_map, Bool, true, false, not, cond, refl, sym, ap, append-nil}
+use Rattle.std.proofs.Common.{◌≡◌, ◌∙◌, ◌++◌, ◌&&◌, ℕ, zero, suc, List, [], ◌∷◌, map, Option, Some, None, option_map, Bool, true, false, not, cond, refl, ap, append-nil}
 use Rattle.std.specs.Prelude.{slice_get, slice_set}
 use Rattle.std.proofs.lemmas.Option.{slice_get-map}
 use Rattle.cyp_term.specs.declared.lit.Lit.TheVariants.{Eq}
-use Rattle.cyp_heap.specs.declared.chunk.Chunk.{Chunk}
 use Rattle.cyp_heap.specs.declared.chunk.Chunk.TheVariants.{Cell}
 use Rattle.cyp_heap.specs.declared.goal.Node.{Node}
 use Rattle.cyp_step.specs.Changes.{Raws, add_pre, pre_of}
-use Rattle.cyp_step.specs.FlatRules.{first_place, has_exist, is_cell_at, is_place, raw_write}
-use Rattle.cyp_step.specs.Shown.{is_program_expr, shown}
+use Rattle.cyp_step.specs.FlatRules.{first_place, is_cell_at, is_place, raw_write}
+use Rattle.cyp_step.specs.Shown.{shown}
 use Rattle.cyp_step.specs.Step.{raws}
 use Rattle.cyp_step.specs.declared.rule.Rule.TheVariants.{ByWrite}
 use Rattle.cyp_cells.specs.declared.flat.Flat.{Flat}
@@ -17,7 +16,6 @@ use Rattle.cyp_cells.specs.declared.flat.FlatTerm.{FlatTerm}
 use Rattle.cyp_cells.specs.Cells.{cell_of, goal_of, node_of, positive_of, same_term, term_of}
 use Rattle.cyp_cells.specs.CellMoves.{IsCells, first_at, has_existential, is_consistent, is_program_term, write_at}
 use Rattle.cyp_cell_moves.proofs.CellTerms.{has_exist-term_of, is_program_expr-term_of}
-use Rattle.cyp_cell_moves.proofs.CellFits.{HasKnown}
 use Rattle.cyp_cell_moves.proofs.CellShown.{shown-same}
 use Rattle.cyp_cell_moves.proofs.CellKnown.{BothKnown, known-post, known-pre}
 

@@ -119,6 +119,17 @@ const ROWS: &[(&[u8], &[u8], Status)] = &[
         b"void f() {\n}\n",
         Status::Program,
     ),
+    // A guard isn't among the eight literals of a clause.
+    (
+        b"predicate p(int n) { | n == 0 => { n < 1 && n < 2 && n < 3 && n < 4 && n < 5 && n < 6 && n < 7 && n < 8 ; emp } } void f() { emp } { emp }",
+        b"void f() {\n}\n",
+        Status::Program,
+    ),
+    (
+        b"predicate p(int n) { | n == 0 => { n < 1 && n < 2 && n < 3 && n < 4 && n < 5 && n < 6 && n < 7 && n < 8 && n < 9 ; emp } } void f() { emp } { emp }",
+        b"refused: TooLarge at 10\n",
+        Status::Refused,
+    ),
     // Texts that are read but not flat.
     (
         b"void f(int n, int m) { n == m + 2147483648 ; emp } { emp }",
@@ -274,6 +285,11 @@ const ROWS: &[(&[u8], &[u8], Status)] = &[
     ),
     (
         b"void f(loc x) { x in x ; emp } { emp }",
+        b"refused: WrongSort at 21\n",
+        Status::Refused,
+    ),
+    (
+        b"void f() { s =i t /\\ s in t ; emp } { emp }",
         b"refused: WrongSort at 21\n",
         Status::Refused,
     ),

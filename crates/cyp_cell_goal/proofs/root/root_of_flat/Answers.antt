@@ -1,5 +1,4 @@
 use Rattle.std.proofs.Common.{Some, ap, sym, ◌∙◌}
-use Rattle.cyp_cells.specs.declared.flat.Flat.{Flat}
 use Rattle.cyp_cell_goal.proofs.Roots.{Made, is_cells, is_root, made_of, no_root}
 use Rattle.cyp_cell_goal.proofs.root.root_of_flat.Goals as goal
 

@@ -1,4 +1,4 @@
-use Rattle.std.proofs.Common.{◌≡◌, ◌∙◌, ◌++◌, ◌∷◌, [], map, sym, ap}
+use Rattle.std.proofs.Common.{◌∙◌, ◌++◌, ◌∷◌, [], map, sym, ap}
 use Rattle.std.specs.Vec.Iter.{into_iter_items}
 use Rattle.cyp_cells.specs.FlatAlts.{plain_alt}
 use Rattle.cyp_cell_moves.specs.CellAlts.{alt_of}

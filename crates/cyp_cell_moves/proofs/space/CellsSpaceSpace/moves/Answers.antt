@@ -1,4 +1,4 @@
-use Rattle.std.proofs.Common.{◌≡◌, ◌∙◌}
+use Rattle.std.proofs.Common.{◌∙◌}
 use Rattle.cyp_cell_moves.proofs.KeptAlts.{moves_are, moves_few, moves_kept}
 use Rattle.cyp_cell_moves.proofs.space.CellsSpaceSpace.moves.Goals as goal
 
