@@ -1,5 +1,5 @@
 -- A literal begins with its first negation, or where it begins without them.
-use Rattle.std.proofs.Common.{List, None, Option, Some, [], ap, cond, false, refl, sym, true, ℕ, ◌∙◌, ◌∷◌, ◌≡◌}
+use Rattle.std.proofs.Common.{List, None, Option, Some, [], ap, false, refl, sym, true, ℕ, ◌∙◌, ◌∷◌, ◌≡◌}
 use Rattle.std.specs.Prelude.{Bool}
 use Rattle.cyp_lex.specs.declared.fault.Fault.{Fault}
 use Rattle.cyp_lex.specs.declared.fault.FaultKind.TheVariants.{WrongSort}
@@ -36,12 +36,12 @@ wrong_sort q = record { kind = WrongSort; place = q }
 
 pub set_guard : (g : LitTree) (b : BaseTree) (t : Bool) (r : Option Fault) (p : ℕ)
     → t ≡ is_set_base b → b ≡ lit_base g → t ≡ true → p ≡ lit_place g → r ≡ Some (wrong_sort p) → r ≡ least_fault (set_guard_fault g)
-set_guard g b t r p test base yes place is =
-    let set : is_set_literal g ≡ true = set_by_base g ∙ ap is_set_base (sym base) ∙ sym test ∙ yes in
+set_guard g b t r p test base sets place is =
+    let set : is_set_literal g ≡ true = set_by_base g ∙ ap is_set_base (sym base) ∙ sym test ∙ sets in
     let here : Some (wrong_sort (lit_place g)) ≡ least_fault (set_guard_fault g) = rw set refl in
     is ∙ ap (λ (q : ℕ). Some (wrong_sort q)) place ∙ here
 
 pub plain_guard : (g : LitTree) (b : BaseTree) (t : Bool) → t ≡ is_set_base b → b ≡ lit_base g → t ≡ false → None ≡ least_fault (set_guard_fault g)
-plain_guard g b t test base no =
-    let set : is_set_literal g ≡ false = set_by_base g ∙ ap is_set_base (sym base) ∙ sym test ∙ no in
+plain_guard g b t test base plain =
+    let set : is_set_literal g ≡ false = set_by_base g ∙ ap is_set_base (sym base) ∙ sym test ∙ plain in
     rw set refl

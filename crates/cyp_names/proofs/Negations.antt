@@ -1,5 +1,5 @@
 -- A literal is kept by what its negations negate and by whether their number is odd.
-use Rattle.std.proofs.Common.{List, [], arith, cond, false, length, refl, sym, true, suc, ℕ, ◌%◌, ◌==◌, ◌∙◌, ◌∷◌, ◌≡◌}
+use Rattle.std.proofs.Common.{List, [], ap, arith, false, length, refl, sym, true, suc, ℕ, ◌%◌, ◌==◌, ◌∙◌, ◌∷◌, ◌≡◌}
 use Rattle.std.specs.Prelude.{Bool, not}
 use Rattle.std.proofs.lemmas.Bool.Decides.{nat_tests}
 use Rattle.cyp_names.specs.Orders.{base_in, lit_in}
@@ -45,5 +45,6 @@ lit_by_base OfText l = uses_by (length (lit_nots l) % 2 == 1) l
 lit_by_base AsKept l = kept_by false l ∙ rw ((odd_flips (lit_nots l)).0) refl
 
 -- by the parts that the code has of it
-pub lit_of_base : (o : Order) (l : LitTree) (ns : List ℕ) (b : BaseTree) → ns ≡ lit_nots l → b ≡ lit_base l → base_in o (length ns % 2 == 1) b ≡ lit_in o l
-lit_of_base o l ns b n e = (λ i. base_in o (length (n i) % 2 == 1) (e i)) ∙ sym (lit_by_base o l)
+pub lit_of_base : (o : Order) (l : LitTree) (ns : List ℕ) (n : ℕ) (b : BaseTree)
+    → ns ≡ lit_nots l → n ≡ length ns → b ≡ lit_base l → base_in o (n % 2 == 1) b ≡ lit_in o l
+lit_of_base o l ns n b nots count base = (λ i. base_in o ((count ∙ ap length nots) i % 2 == 1) (base i)) ∙ sym (lit_by_base o l)

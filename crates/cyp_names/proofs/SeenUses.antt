@@ -1,6 +1,6 @@
 -- Of the uses seen so far the first of each name decide.
-use Rattle.std.proofs.Common.{List, None, Option, Some, [], add-one, ap, append_assoc, append-nil, arith, cond, drop, drop-cons, false, inl, inr, length, map, refl, suc, sym, take, true, ℕ, ◌+◌, ◌++◌, ◌<◌, ◌∙◌, ◌∷◌, ◌≡◌}
-use Rattle.std.specs.Prelude.{Bool, get_or, ◌||◌}
+use Rattle.std.proofs.Common.{List, None, Option, Some, [], add-one, ap, cond, drop, drop-cons, false, length, map, refl, suc, sym, take, true, ℕ, ◌+◌, ◌++◌, ◌<◌, ◌∙◌, ◌∷◌, ◌≡◌}
+use Rattle.std.specs.Prelude.{Bool, get_or}
 use Rattle.std.specs.List.{list_any}
 use Rattle.std.specs.Str.{bytes_eq}
 use Rattle.std.proofs.lemmas.Slice.Eq.{bytes_eq-Decides}

@@ -16,6 +16,7 @@ mod uses;
 
 pub use least::{fault, lesser};
 pub use name_faults::name_fault;
+pub use places::literal_place;
 pub use predicates::{param_sort, params_of, pred_named, pred_place};
 pub use scope::Scope;
 pub use scopes::{clause_scope, goal_scope, universal_scope};

@@ -39,7 +39,7 @@ fn base_place(base: &BaseTree) -> u32
 }
 
 /// Where a literal begins.
-pub(crate) fn literal_place(literal: &LitTree) -> u32
+pub fn literal_place(literal: &LitTree) -> u32
     ensures { result ≡ lit_place literal.now }
 {
     match literal.nots().as_slice() {

@@ -1,4 +1,4 @@
-use Rattle.std.proofs.Common.{ap, sym, true, ◌∙◌, ◌≡◌}
+use Rattle.std.proofs.Common.{ap, sym, ◌∙◌}
 use Rattle.std.specs.Str.{bytes_eq}
 use Rattle.cyp_grammar.specs.declared.ident.Ident.{Ident}
 use Rattle.cyp_names.proofs.SeenUses.{declared_here}
