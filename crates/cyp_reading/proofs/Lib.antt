@@ -1,3 +1,4 @@
+pub mod Alls
 pub mod Appended
 pub mod ArgsRead
 pub mod CardsGiven

@@ -1,12 +1,13 @@
 -- The numbers of a tree that tokens of specifications spell are small.
 use Rattle.std.proofs.Common.{List, [], arith, inl, inr, refl, subst, sym, ℕ, ◌++◌, ◌∷◌, ◌≡◌}
 use Rattle.std.specs.List.{All}
+use Rattle.std.proofs.lemmas.List.Elements.{All-nil}
 use Rattle.cyp_grammar.specs.Lexemes.{Number, Reserved, Symbol}
 use Rattle.cyp_grammar.specs.Spelling.{Any, At, Mark, all_spelling, ident, list_spelling, separated, sign, word}
 use Rattle.cyp_lex.specs.declared.token.Sign.TheVariants.{Bar, Comma, Implies, LeftBrace, LeftBracket, LeftParen, PointsTo, RightBrace, RightBracket, RightParen, Same as SameSign, Semicolon, Subset, TwoPluses, TwoStars}
 use Rattle.cyp_lex.specs.declared.token.Word.TheVariants.{In, Not, Predicate, Void}
 use Rattle.cyp_reading.specs.Small.{ArgSmall, BodySmall, ChunkSmall, ClauseSmall, IntSmall, ItemSmall, LitSmall, PartSmall, PredSmall, PureSmall, SetSmall, TextSmall}
-use Rattle.cyp_reading.proofs.UnionsRead.{all_cons}
+use Rattle.cyp_reading.proofs.Alls.{all_of}
 use Rattle.cyp_term.proofs.Lists.{Among}
 use Rattle.cyp_text.specs.Grammar.{arg_spelling, body_spelling, braces_spelling, chunk_spelling, clause_spelling, comparison_sign, conjunction_sign, heap_spelling, in_braces, int_spelling, item_spelling, later_item, lit_spelling, params_spelling, part_spelling, parts_spelling, pred_spelling, pure_spelling, set_spelling, text_spelling}
 use Rattle.cyp_text.specs.LitTrees.{Comparing, Inside, LitTree, Negation, SameSets, SubSets}
@@ -31,11 +32,6 @@ use Rattle.cyp_text.specs.declared.tree.SetTree.{SetTree}
 use Rattle.cyp_text.specs.declared.tree.TextTree.{TextTree}
 use Rattle.cyp_text.proofs.PrintedMarks.{Marks, each_all, each_list, each_separated, marks_left, marks_rest, marks_right, number_small}
 use Rattle.cyp_text.proofs.PrintedSmall.{block_at, cell_at, inst_args, named_cell}
-
--- of each of these
-all_of : {A : Type 0} (P : A → Type 0) (xs : List A) → ((x : A) → Among x xs → P x) → All P xs
-all_of P [] f = λ k d l. absurd (omega (arith, l))
-all_of P (x ∷ xs) f = all_cons P x xs (f x (inl refl)) (all_of P xs (λ y m. f y (inr m)))
 
 int_small : (t : IntTree) → Marks (int_spelling t) → IntSmall t
 int_small (Num p n) h = number_small n (h (At (Number n) p) (inl refl))
@@ -108,7 +104,7 @@ pure_small (Items i is) h = (
     others = marks_left (all_spelling later_item is) (sign Semicolon ∷ []) (marks_right (item_spelling i) (all_spelling later_item is ++ sign Semicolon ∷ []) h)
 
 heap_small : (cs : List ChunkTree) → Marks (heap_spelling cs) → All ChunkSmall cs
-heap_small [] h = λ k d l. absurd (omega (arith, l))
+heap_small [] h = All-nil ChunkSmall
 heap_small (c ∷ cs) h = all_of ChunkSmall (c ∷ cs) (λ d m. chunk_small d (each_list (Symbol TwoStars) chunk_spelling c cs h d m))
 
 body_small : (b : BodyTree) → Marks (body_spelling b) → BodySmall b

@@ -1,11 +1,12 @@
 -- Trees with small numbers can be read, where each name has in the scope the sort of its place.
 use Rattle.std.proofs.Common.{Bool, List, None, Some, [], ap, arith, cond, false, filter, flat_map, get_or, inl, inr, length, map, not, refl, suc, sym, true, zero, ℕ, ◌++◌, ◌<◌, ◌≤◌, ◌∙◌, ◌∷◌, ◌≡◌, ◌≢◌}
 use Rattle.std.specs.List.{All}
+use Rattle.std.proofs.lemmas.List.Elements.{All-head, All-tail}
 use Rattle.std.specs.Str.{bytes_eq}
 use Rattle.cyp_grammar.specs.declared.ident.Ident.{Ident}
 use Rattle.cyp_reading.specs.Readable.{ArgReadable, ArgsReadable, BaseReadable, ChunkReadable, IntReadable, ItemReadable, LitReadable, PartReadable, PureReadable, SetReadable}
 use Rattle.cyp_reading.specs.Small.{ArgSmall, BaseSmall, ChunkSmall, IntSmall, ItemSmall, LitSmall, PartSmall, PureSmall, SetSmall}
-use Rattle.cyp_reading.proofs.UnionsRead.{all_cons, all_first, all_rest}
+use Rattle.cyp_reading.proofs.Alls.{all_by}
 use Rattle.cyp_term.specs.declared.term.Sort.{Sort}
 use Rattle.cyp_term.specs.declared.term.Sort.TheVariants.{Card, Int, Set}
 use Rattle.cyp_term.proofs.Lists.{Among, Among-left, Among-right, filter_in, flat_in}
@@ -29,11 +30,6 @@ use Rattle.cyp_text.specs.declared.tree.PureTree.TheVariants.{Items, NoItems}
 use Rattle.cyp_text.specs.declared.tree.SetTree.{SetTree}
 use Rattle.cyp_text.specs.Uses.{Use, arg_sorts, arg_uses, args_uses, chunk_uses, int_uses, part_uses, pred_place, set_parts, use_of}
 use Rattle.cyp_text.proofs.PlainSorts.{arg_sorts_plain}
-
--- each of a list, by its items
-pub all_by : {A : Type 0} (P Q : A → Type 0) (xs : List A) → ((x : A) → Among x xs → P x → Q x) → All P xs → All Q xs
-all_by P Q [] f h = λ k d l. absurd (omega (arith, l))
-all_by P Q (x ∷ xs) f h = all_cons Q x xs (f x (inl refl) (all_first P x xs h)) (all_by P Q xs (λ y m. f y (inr m)) (all_rest P x xs h))
 
 module _ (sc : Scope) where
   -- each of these names has its sort in the scope
@@ -140,8 +136,8 @@ module _ (sc : Scope) where
   args_readable [] n xs k h = tt
   args_readable (s ∷ ss) n [] k h = tt
   args_readable (s ∷ ss) n (x ∷ xs) k h = (
-    arg_readable s (n s (inl refl)) x (all_first ArgSmall x xs k) (sorted_left (arg_uses kept_parts (Some s) x) (args_uses kept_parts ss xs) h),
-    args_readable ss (λ r m. n r (inr m)) xs (all_rest ArgSmall x xs k) (sorted_right (arg_uses kept_parts (Some s) x) (args_uses kept_parts ss xs) h),
+    arg_readable s (n s (inl refl)) x (All-head ArgSmall x xs k) (sorted_left (arg_uses kept_parts (Some s) x) (args_uses kept_parts ss xs) h),
+    args_readable ss (λ r m. n r (inr m)) xs (All-tail ArgSmall x xs k) (sorted_right (arg_uses kept_parts (Some s) x) (args_uses kept_parts ss xs) h),
   )
 
   pub chunk_readable : (qs : List PredTree) → length qs < 256 → (c : ChunkTree) → ChunkSmall c → Sorted (chunk_uses kept_parts qs c) → ChunkReadable qs sc c

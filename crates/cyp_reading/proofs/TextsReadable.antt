@@ -15,7 +15,8 @@ use Rattle.cyp_lex.specs.declared.fault.FaultKind.TheVariants.{TooLarge}
 use Rattle.cyp_reading.specs.Readable.{BodyReadable, ChunkReadable, LitReadable}
 use Rattle.cyp_reading.specs.ReadableTexts.{ClauseReadable, GoalReadable, PredReadable}
 use Rattle.cyp_reading.specs.Small.{BodySmall, ChunkSmall, ClauseSmall, PredSmall, TextSmall}
-use Rattle.cyp_reading.proofs.SortedRead.{Sorted, all_by, chunk_readable, lit_readable, pure_readable, sorted_flat, sorted_left, sorted_right}
+use Rattle.cyp_reading.proofs.Alls.{all_by}
+use Rattle.cyp_reading.proofs.SortedRead.{Sorted, chunk_readable, lit_readable, pure_readable, sorted_flat, sorted_left, sorted_right}
 use Rattle.cyp_term.specs.Terms.{is_set_var, sort_eq, term_eq, var_eq, without_repeats}
 use Rattle.cyp_term.specs.declared.term.Sort.{Sort}
 use Rattle.cyp_term.specs.declared.term.Sort.TheVariants.{Card, Int, Set}

@@ -1,6 +1,7 @@
 -- The variables and elements of unions that are read.
 use Rattle.std.proofs.Common.{Bool, List, [], refl, ◌+◌, arith, flat_map, length, map, suc, sym, zero, ℕ, ◌++◌, ◌<◌, ◌∷◌, ◌≡◌, ◌∙◌, get_or, drop, ap}
 use Rattle.std.specs.List.{All}
+use Rattle.std.proofs.lemmas.List.Elements.{All-head, All-tail}
 use Rattle.cyp_reading.specs.Readable.{HasSort, IntReadable, PartReadable}
 use Rattle.cyp_term.specs.SetTermValue.{AllSets}
 use Rattle.cyp_term.specs.Terms.{term_eq, var_eq, with_all_new, with_new, without_repeats}
@@ -15,34 +16,13 @@ use Rattle.cyp_text.specs.declared.tree.IntTree.{IntTree}
 use Rattle.cyp_text.specs.declared.tree.PartTree.{PartTree}
 use Rattle.cyp_text.specs.declared.tree.PartTree.TheVariants.{Braces, PartName}
 
--- each item behind the first
-pub all_rest : {A : Type 0} (P : A → Type 0) (x : A) (xs : List A) → All P (x ∷ xs) → All P xs
-all_rest P x xs h k d l = h (suc k) d (omega (arith, l))
-
--- the first item
-pub all_first : {A : Type 0} (P : A → Type 0) (x : A) (xs : List A) → All P (x ∷ xs) → P x
-all_first P x xs h = h 0 x (omega arith)
-
--- an item and those behind it
-pub all_cons : {A : Type 0} (P : A → Type 0) (x : A) (xs : List A) → P x → All P xs → All P (x ∷ xs)
-all_cons P x xs h k zero d l = h
-all_cons P x xs h k (suc n) d l = k n d (omega (arith, l))
-
 -- ---- sorts
 
-sets_append : (vs ws : List Var) → AllSets vs → AllSets ws → AllSets (vs ++ ws)
-sets_append [] ws h k = k
-sets_append (v ∷ vs) ws h k = (h.0, sets_append vs ws h.1 k)
-
 module _ (sc : Scope) where
-  part_sets : (u : PartTree) → PartReadable sc u → AllSets (part_vars sc u)
-  part_sets (PartName i) h = (h, tt)
-  part_sets (Braces p ts) h = tt
-
   parts_sets : (us : List PartTree) → All (PartReadable sc) us → AllSets (flat_map (part_vars sc) us)
   parts_sets [] h = tt
-  parts_sets (u ∷ us) h =
-      sets_append (part_vars sc u) (flat_map (part_vars sc) us) (part_sets u (all_first (PartReadable sc) u us h)) (parts_sets us (all_rest (PartReadable sc) u us h))
+  parts_sets (PartName i ∷ us) h = (All-head (PartReadable sc) (PartName i) us h, parts_sets us (All-tail (PartReadable sc) (PartName i) us h))
+  parts_sets (Braces p ts ∷ us) h = parts_sets us (All-tail (PartReadable sc) (Braces p ts) us h)
 
   -- the variables of a union are sets
   pub union_sets : (us : List PartTree) → All (PartReadable sc) us → AllSets (without_repeats var_eq (flat_map (part_vars sc) us))

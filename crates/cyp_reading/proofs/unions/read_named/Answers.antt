@@ -1,6 +1,7 @@
 use Rattle.std.proofs.Common.{List, [], flat_map, subst, sym, ◌∙◌, ◌∷◌, ◌≡◌}
 use Rattle.cyp_reading.specs.Readable.{PartReadable}
-use Rattle.cyp_reading.proofs.UnionsRead.{all_cons, three_added, two_added, union_sets}
+use Rattle.std.proofs.lemmas.List.Elements.{All-cons}
+use Rattle.cyp_reading.proofs.UnionsRead.{three_added, two_added, union_sets}
 use Rattle.cyp_term.specs.SetTermValue.{AllSets}
 use Rattle.cyp_term.specs.Terms.{term_eq, var_eq}
 use Rattle.cyp_term.specs.declared.term.Var.{Var}
@@ -18,7 +19,7 @@ new-requires c =
     ∙ three_added var_eq c.new-vars.result.items c.add_name.new.vars.items c.add_part_var.new.vars.items c.add_vars.new.vars.items (var_named sc c.args.name.now.text ∷ []) (part_vars sc u) (flat_map (part_vars sc) us)
     c.new-vars.ensures.items c.in_ok-add_name.ensures c.in_ok-add_part_var.ensures c.in_ok-add_vars.ensures in
     subst (λ (vs : List Var). AllSets vs) (sym vars_are) (union_sets sc (PartName c.args.name.now ∷ u ∷ us)
-    (all_cons (PartReadable sc) (PartName c.args.name.now) (u ∷ us) c.requires.name (all_cons (PartReadable sc) u us c.requires.part c.requires.parts)))
+    (All-cons (PartReadable sc) (PartName c.args.name.now) (u ∷ us) c.requires.name (All-cons (PartReadable sc) u us c.requires.part c.requires.parts)))
 
 pub returns : goal.returns
 returns c =

@@ -1,6 +1,7 @@
 use Rattle.std.proofs.Common.{List, ap, flat_map, subst, sym, ◌∙◌, ◌∷◌, ◌≡◌}
 use Rattle.cyp_reading.specs.Readable.{PartReadable}
-use Rattle.cyp_reading.proofs.UnionsRead.{all_cons, two_added, union_sets}
+use Rattle.std.proofs.lemmas.List.Elements.{All-cons}
+use Rattle.cyp_reading.proofs.UnionsRead.{two_added, union_sets}
 use Rattle.cyp_term.specs.SetTermValue.{AllSets}
 use Rattle.cyp_term.specs.Terms.{term_eq, var_eq, with_all_new}
 use Rattle.cyp_term.specs.declared.term.Term.{Term}
@@ -17,7 +18,7 @@ new-requires c =
     c.from_vec.ensures
     ∙ two_added var_eq c.new-vars.result.items c.add_part_var.new.vars.items c.add_vars.new.vars.items (part_vars sc u.first) (flat_map (part_vars sc) u.others) c.new-vars.ensures.items c.in_ok-add_part_var.ensures
     (c.in_ok-add_vars.ensures ∙ ap (λ (us : List PartTree). with_all_new var_eq c.add_part_var.new.vars.items (flat_map (part_vars sc) us)) c.as_slice.ensures) in
-    subst (λ (vs : List Var). AllSets vs) (sym vars_are) (union_sets sc (u.first ∷ u.others) (all_cons (PartReadable sc) u.first u.others c.requires.readable.0 c.requires.readable.1))
+    subst (λ (vs : List Var). AllSets vs) (sym vars_are) (union_sets sc (u.first ∷ u.others) (All-cons (PartReadable sc) u.first u.others c.requires.readable.0 c.requires.readable.1))
 
 pub returns : goal.returns
 returns c =
