@@ -1,6 +1,6 @@
 -- Cardinalities are given one by one, and change neither the number nor the order of chunks.
-use Rattle.std.proofs.Common.{Bool, List, [], append_assoc, ap, arith, length, map, refl, suc, subst, sym, true, ℕ, ◌+◌, ◌++◌, ◌≤◌, ◌∙◌, ◌∷◌, ◌≡◌, ◌&&◌}
-use Rattle.std.specs.Prelude.{IsTrue, nat_le}
+use Rattle.std.proofs.Common.{Bool, List, [], append_assoc, ap, arith, length, map, refl, suc, sym, ℕ, ◌+◌, ◌++◌, ◌≤◌, ◌∙◌, ◌∷◌, ◌≡◌, ◌&&◌}
+use Rattle.std.specs.Prelude.{nat_le}
 use Rattle.std.specs.List.{list_all}
 use Rattle.std.proofs.lemmas.List.{length-map}
 use Rattle.cyp_heap.specs.Chunks.{in_order, kind_rank}

@@ -1,7 +1,5 @@
 -- What is read in a scope is what the tree says, where the scope is that of the tree.
 use Rattle.std.proofs.Common.{Bool, List, [], ap, arith, cond, false, filter, length, length-append, sym, true, ◌≤◌, ◌∷◌, ◌≡◌}
-use Rattle.cyp_heap.specs.declared.goal.Goal.{Goal}
-use Rattle.cyp_heap.specs.declared.pred.Clause.{Clause}
 use Rattle.cyp_reading.specs.InScope.{clause_in, goal_in}
 use Rattle.cyp_reading.specs.Mended.{mended_text}
 use Rattle.cyp_reading.proofs.MendedSame.{body_same, goal_names, universal_names}
@@ -12,7 +10,6 @@ use Rattle.cyp_text.specs.LimitFaults.{size_faults}
 use Rattle.cyp_text.specs.ReadTerms.{Scope, read_chunks, read_lit, read_lits}
 use Rattle.cyp_text.specs.Specifications.{clause_scope, count_sort, goal_scope, read_clause, read_goal, universal_scope}
 use Rattle.cyp_text.specs.Uses.{Use}
-use Rattle.cyp_text.specs.declared.tree.BodyTree.{BodyTree}
 use Rattle.cyp_text.specs.declared.tree.ClauseTree.{ClauseTree}
 use Rattle.cyp_text.specs.declared.tree.ParamTree.{ParamTree}
 use Rattle.cyp_text.specs.declared.tree.PredTree.{PredTree}

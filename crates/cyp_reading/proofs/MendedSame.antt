@@ -1,5 +1,5 @@
 -- A tree whose blocks have right sizes is its own mended tree, and mending changes no names.
-use Rattle.std.proofs.Common.{Bool, List, [], ap, arith, cond, flat_map, filter, length, map, max, min, false, refl, sym, true, ℕ, ◌++◌, ◌∙◌, ◌∷◌, ◌≡◌, ◌≤◌, ◌&&◌}
+use Rattle.std.proofs.Common.{Bool, List, [], ap, arith, cond, flat_map, filter, map, max, min, false, refl, sym, true, ℕ, ◌++◌, ◌∙◌, ◌∷◌, ◌≡◌, ◌≤◌, ◌&&◌}
 use Rattle.std.specs.Prelude.{nat_le}
 use Rattle.std.proofs.lemmas.Bool.{and_parts, leb-true}
 use Rattle.std.proofs.lemmas.Grind.{flat_map-append}

@@ -1,5 +1,5 @@
 -- Literals with their negations.
-use Rattle.std.proofs.Common.{List, ap, arith, length, refl, suc, zero, ℕ, ◌%◌, ◌∙◌, ◌∷◌, ◌≡◌, ◌≢◌}
+use Rattle.std.proofs.Common.{ap, arith, length, refl, suc, zero, ℕ, ◌%◌, ◌∙◌, ◌≡◌, ◌≢◌}
 use Rattle.cyp_term.specs.Terms.{negated}
 use Rattle.cyp_term.specs.declared.lit.Lit.{Lit}
 use Rattle.cyp_term.specs.declared.lit.Lit.TheVariants.{Eq, Le, Lt, Member, Ne, NotMember, NotSame, NotSub, Same, Sub}

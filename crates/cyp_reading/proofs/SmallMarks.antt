@@ -1,15 +1,15 @@
 -- The numbers of a tree that tokens of specifications spell are small.
-use Rattle.std.proofs.Common.{List, [], arith, inl, inr, refl, subst, sym, ℕ, ◌++◌, ◌∷◌, ◌≡◌}
+use Rattle.std.proofs.Common.{List, [], inl, inr, refl, subst, sym, ◌++◌, ◌∷◌}
 use Rattle.std.specs.List.{All}
 use Rattle.std.proofs.lemmas.List.Elements.{All-nil}
 use Rattle.cyp_grammar.specs.Lexemes.{Number, Reserved, Symbol}
-use Rattle.cyp_grammar.specs.Spelling.{Any, At, Mark, all_spelling, ident, list_spelling, separated, sign, word}
-use Rattle.cyp_lex.specs.declared.token.Sign.TheVariants.{Bar, Comma, Implies, LeftBrace, LeftBracket, LeftParen, PointsTo, RightBrace, RightBracket, RightParen, Same as SameSign, Semicolon, Subset, TwoPluses, TwoStars}
+use Rattle.cyp_grammar.specs.Spelling.{Any, At, Mark, all_spelling, ident, separated, sign, word}
+use Rattle.cyp_lex.specs.declared.token.Sign.TheVariants.{Bar, Comma, Implies, LeftBrace, LeftParen, RightBrace, RightParen, Same as SameSign, Semicolon, Subset, TwoPluses, TwoStars}
 use Rattle.cyp_lex.specs.declared.token.Word.TheVariants.{In, Not, Predicate, Void}
 use Rattle.cyp_reading.specs.Small.{ArgSmall, BodySmall, ChunkSmall, ClauseSmall, IntSmall, ItemSmall, LitSmall, PartSmall, PredSmall, PureSmall, SetSmall, TextSmall}
 use Rattle.cyp_reading.proofs.Alls.{all_of}
 use Rattle.cyp_term.proofs.Lists.{Among}
-use Rattle.cyp_text.specs.Grammar.{arg_spelling, body_spelling, braces_spelling, chunk_spelling, clause_spelling, comparison_sign, conjunction_sign, heap_spelling, in_braces, int_spelling, item_spelling, later_item, lit_spelling, params_spelling, part_spelling, parts_spelling, pred_spelling, pure_spelling, set_spelling, text_spelling}
+use Rattle.cyp_text.specs.Grammar.{arg_spelling, body_spelling, chunk_spelling, clause_spelling, comparison_sign, conjunction_sign, heap_spelling, in_braces, int_spelling, item_spelling, later_item, lit_spelling, params_spelling, part_spelling, parts_spelling, pred_spelling, pure_spelling, set_spelling, text_spelling}
 use Rattle.cyp_text.specs.LitTrees.{Comparing, Inside, LitTree, Negation, SameSets, SubSets}
 use Rattle.cyp_text.specs.NameFaults.{clauses}
 use Rattle.cyp_text.specs.declared.tree.ArgTree.{ArgTree}

@@ -1,16 +1,16 @@
 -- Trees with small numbers can be read, where each name has in the scope the sort of its place.
-use Rattle.std.proofs.Common.{Bool, List, None, Some, [], ap, arith, cond, false, filter, flat_map, get_or, inl, inr, length, map, not, refl, suc, sym, true, zero, ℕ, ◌++◌, ◌<◌, ◌≤◌, ◌∙◌, ◌∷◌, ◌≡◌, ◌≢◌}
+use Rattle.std.proofs.Common.{Bool, List, Some, [], ap, arith, cond, false, filter, flat_map, inl, inr, length, not, refl, suc, true, ◌++◌, ◌<◌, ◌≤◌, ◌∷◌, ◌≡◌, ◌≢◌}
 use Rattle.std.specs.List.{All}
 use Rattle.std.proofs.lemmas.List.Elements.{All-head, All-tail}
 use Rattle.std.specs.Str.{bytes_eq}
 use Rattle.cyp_grammar.specs.declared.ident.Ident.{Ident}
-use Rattle.cyp_reading.specs.Readable.{ArgReadable, ArgsReadable, BaseReadable, ChunkReadable, IntReadable, ItemReadable, LitReadable, PartReadable, PureReadable, SetReadable}
-use Rattle.cyp_reading.specs.Small.{ArgSmall, BaseSmall, ChunkSmall, IntSmall, ItemSmall, LitSmall, PartSmall, PureSmall, SetSmall}
+use Rattle.cyp_reading.specs.Readable.{ArgReadable, ArgsReadable, ChunkReadable, IntReadable, ItemReadable, LitReadable, PartReadable, PureReadable, SetReadable}
+use Rattle.cyp_reading.specs.Small.{ArgSmall, ChunkSmall, IntSmall, ItemSmall, LitSmall, PartSmall, PureSmall, SetSmall}
 use Rattle.cyp_reading.proofs.Alls.{all_by}
 use Rattle.cyp_term.specs.declared.term.Sort.{Sort}
 use Rattle.cyp_term.specs.declared.term.Sort.TheVariants.{Card, Int, Set}
 use Rattle.cyp_term.proofs.Lists.{Among, Among-left, Among-right, filter_in, flat_in}
-use Rattle.cyp_text.specs.Bodies.{body_lits, in_kinds, is_name, is_turned, item_lits, kept_body, kept_lit, kept_parts, kept_set, pure_lits}
+use Rattle.cyp_text.specs.Bodies.{is_name, is_turned, item_lits, kept_lit, kept_parts, kept_set, pure_lits}
 use Rattle.cyp_text.specs.LitTrees.{Comparing, Inside, LitTree, Negation, SameSets, SubSets}
 use Rattle.cyp_text.specs.ReadTerms.{Scope, sort_in}
 use Rattle.cyp_text.specs.declared.tree.ArgTree.{ArgTree}

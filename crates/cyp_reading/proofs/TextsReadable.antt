@@ -12,7 +12,7 @@ use Rattle.cyp_heap.specs.declared.chunk.Chunk.TheVariants.{Block, Cell, Inst}
 use Rattle.cyp_heap.specs.declared.goal.Goal.{Goal}
 use Rattle.cyp_lex.specs.declared.fault.Fault.{Fault}
 use Rattle.cyp_lex.specs.declared.fault.FaultKind.TheVariants.{TooLarge}
-use Rattle.cyp_reading.specs.Readable.{BodyReadable, ChunkReadable, LitReadable}
+use Rattle.cyp_reading.specs.Readable.{BodyReadable, ChunkReadable}
 use Rattle.cyp_reading.specs.ReadableTexts.{ClauseReadable, GoalReadable, PredReadable}
 use Rattle.cyp_reading.specs.Small.{BodySmall, ChunkSmall, ClauseSmall, PredSmall, TextSmall}
 use Rattle.cyp_reading.proofs.Alls.{all_by}
@@ -21,13 +21,13 @@ use Rattle.cyp_term.specs.Terms.{is_set_var, sort_eq, term_eq, var_eq, without_r
 use Rattle.cyp_term.specs.declared.term.Sort.{Sort}
 use Rattle.cyp_term.specs.declared.term.Sort.TheVariants.{Card, Int, Set}
 use Rattle.cyp_term.specs.declared.term.Var.{Var}
-use Rattle.cyp_term.proofs.Lists.{Among, Among-left, Among-right, each_at, filter_in}
+use Rattle.cyp_term.proofs.Lists.{Among, Among-left, Among-right, filter_in}
 use Rattle.cyp_text.specs.Bodies.{body_lits, in_kinds, is_block, is_cell, is_instance, kept_body, kept_lit, kept_parts}
 use Rattle.cyp_text.specs.LimitFaults.{extra_pred_fault, guard_of, is_pred_within, is_root_within, limit_faults, overlap_faults, pred_limit_faults, root_of, size_faults, unproductive_fault}
 use Rattle.cyp_text.specs.NameFaults.{clauses, fault_at, name_faults, pred_faults, proc_faults, repeats}
 use Rattle.cyp_text.specs.ReadTerms.{Scope, read_chunk, read_chunks}
-use Rattle.cyp_text.specs.Specifications.{clause_scope, count_sort, goal_scope, read_goal, read_pred, read_preds, read_tree, with_cards}
-use Rattle.cyp_text.specs.Uses.{Use, chunk_uses, param_uses}
+use Rattle.cyp_text.specs.Specifications.{clause_scope, count_sort, goal_scope, read_goal, read_pred, read_tree, with_cards}
+use Rattle.cyp_text.specs.Uses.{Use, chunk_uses}
 use Rattle.cyp_text.specs.declared.tree.BodyTree.{BodyTree}
 use Rattle.cyp_text.specs.declared.tree.ChunkTree.{ChunkTree}
 use Rattle.cyp_text.specs.declared.tree.ChunkTree.TheVariants.{BlockOf, InstanceOf, NamedCell, TermCell}

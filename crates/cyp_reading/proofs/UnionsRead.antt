@@ -1,17 +1,16 @@
 -- The variables and elements of unions that are read.
-use Rattle.std.proofs.Common.{Bool, List, [], refl, ◌+◌, arith, flat_map, length, map, suc, sym, zero, ℕ, ◌++◌, ◌<◌, ◌∷◌, ◌≡◌, ◌∙◌, get_or, drop, ap}
+use Rattle.std.proofs.Common.{Bool, List, [], refl, ◌+◌, flat_map, length, map, sym, ℕ, ◌++◌, ◌<◌, ◌∷◌, ◌≡◌, ◌∙◌, get_or, drop, ap}
 use Rattle.std.specs.List.{All}
 use Rattle.std.proofs.lemmas.List.Elements.{All-head, All-tail}
-use Rattle.cyp_reading.specs.Readable.{HasSort, IntReadable, PartReadable}
+use Rattle.cyp_reading.specs.Readable.{PartReadable}
 use Rattle.cyp_term.specs.SetTermValue.{AllSets}
 use Rattle.cyp_term.specs.Terms.{term_eq, var_eq, with_all_new, with_new, without_repeats}
-use Rattle.cyp_term.specs.declared.term.Sort.TheVariants.{Set}
 use Rattle.cyp_term.specs.declared.term.Term.{Term}
 use Rattle.cyp_term.specs.declared.term.Var.{Var}
 use Rattle.cyp_term.proofs.Images.{AllSets_with_all_new}
 use Rattle.cyp_term.proofs.Repeats.{with_all_new_append}
 use Rattle.cyp_term.proofs.Turns.{added_turn}
-use Rattle.cyp_text.specs.ReadTerms.{Scope, part_elems, part_vars, read_int, var_named}
+use Rattle.cyp_text.specs.ReadTerms.{Scope, part_elems, part_vars, read_int}
 use Rattle.cyp_text.specs.declared.tree.IntTree.{IntTree}
 use Rattle.cyp_text.specs.declared.tree.PartTree.{PartTree}
 use Rattle.cyp_text.specs.declared.tree.PartTree.TheVariants.{Braces, PartName}

@@ -1,5 +1,5 @@
 -- Trees whose blocks have sizes that a block may have.
-use Rattle.std.specs.Prelude.{List, map, max, min}
+use Rattle.std.specs.Prelude.{map, max, min}
 use Rattle.cyp_text.specs.declared.tree.BodyTree.{BodyTree}
 use Rattle.cyp_text.specs.declared.tree.ChunkTree.{ChunkTree}
 use Rattle.cyp_text.specs.declared.tree.ChunkTree.TheVariants.{BlockOf}

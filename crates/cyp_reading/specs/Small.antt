@@ -1,5 +1,4 @@
 -- Trees whose numbers are those of tokens, 2147483648 at most.
-use Rattle.std.specs.Prelude.{List}
 use Rattle.std.specs.List.{All}
 use Rattle.cyp_reading.specs.Readable.{IsSmall}
 use Rattle.cyp_text.specs.LitTrees.{LitTree, lit_base}

@@ -1,6 +1,6 @@
-use Rattle.std.proofs.Common.{◌≡◌, map, take}
+use Rattle.std.proofs.Common.{◌++◌, ◌≡◌, drop, map}
 use Rattle.cyp_text.specs.Specifications.{read_pred}
 use Rattle.cyp_reading.proofs.clauses.read_preds.Given as goal
 
 abbrev pub invariant-loop-pred : goal.invariant-loop-pred
-invariant-loop-pred l = l.read.items ≡ map (read_pred l.preds) (take l.pred-index l.preds)
+invariant-loop-pred l = l.read.items ++ map (read_pred l.preds) (drop l.pred-index l.preds) ≡ map (read_pred l.preds) l.preds

@@ -1,4 +1,4 @@
-use Rattle.std.proofs.Common.{List, ap, length, sym, ℕ, ◌%◌, ◌∙◌, ◌≡◌, ◌≢◌}
+use Rattle.std.proofs.Common.{ap, length, sym, ℕ, ◌%◌, ◌∙◌, ◌≡◌, ◌≢◌}
 use Rattle.cyp_reading.proofs.NotsRead.{even_read, odd_read}
 use Rattle.cyp_term.specs.Terms.{negated}
 use Rattle.cyp_term.specs.declared.lit.Lit.{Lit}

@@ -1,4 +1,4 @@
-use Rattle.std.proofs.Common.{List, ap, map, subst, sym, ◌∙◌, ◌≡◌}
+use Rattle.std.proofs.Common.{List, ap, subst, sym, ◌∙◌, ◌≡◌}
 use Rattle.std.specs.List.{All}
 use Rattle.cyp_heap.specs.PredsFormed.{IsFormedPreds}
 use Rattle.cyp_heap.specs.declared.pred.Preds.{Preds}

@@ -1,6 +1,4 @@
 use Rattle.std.proofs.Common.{ap, subst, sym, ◌∙◌, ◌≡◌}
-use Rattle.cyp_heap.specs.declared.goal.Goal.{Goal}
-use Rattle.cyp_heap.specs.declared.pred.Preds.{Preds}
 use Rattle.cyp_text.specs.KeepsSpec.{KeepsSpec}
 use Rattle.cyp_reading.proofs.MendedSame.{text_same}
 use Rattle.cyp_reading.proofs.TextsReadable.{goal_readable, post_sizes, pre_sizes, root_right}
@@ -11,8 +9,8 @@ use Rattle.cyp_reading.proofs.reading.spec_of.Goals as goal
 pub read_goal-requires : goal.read_goal-requires
 read_goal-requires c = goal_readable c.args.tree.now c.requires.names c.requires.limits c.requires.small
 
-pub new-requires : goal.new-requires
-new-requires c =
+pub new-requires-2 : goal.new-requires-2
+new-requires-2 c =
     let t = c.args.tree.now in
     let n = c.requires.names in
     let l = c.requires.limits in
@@ -30,4 +28,4 @@ returns c =
     let s = c.requires.small in
     let preds_are : c.in_ok-shared.shared ≡ read_preds t.preds = c.in_ok-shared.ensures ∙ c.in_ok-preds.ensures in
     let goal_is : c.in_ok-goal.goal ≡ read_goal t = c.in_ok-goal.ensures ∙ ap read_goal (text_same t (pre_sizes t n l s) (post_sizes t n l s)) in
-    c.new.ensures ∙ (λ i. record { preds = preds_are i; name = c.in_ok-name.ensures i; goal = goal_is i })
+    c.new-2.ensures ∙ (λ i. record { preds = preds_are i; name = c.in_ok-name.ensures i; goal = goal_is i })

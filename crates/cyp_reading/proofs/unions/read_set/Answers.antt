@@ -4,7 +4,6 @@ use Rattle.std.proofs.lemmas.List.Elements.{All-cons}
 use Rattle.cyp_reading.proofs.UnionsRead.{two_added, union_sets}
 use Rattle.cyp_term.specs.SetTermValue.{AllSets}
 use Rattle.cyp_term.specs.Terms.{term_eq, var_eq, with_all_new}
-use Rattle.cyp_term.specs.declared.term.Term.{Term}
 use Rattle.cyp_term.specs.declared.term.Var.{Var}
 use Rattle.cyp_text.specs.ReadTerms.{part_elems, part_vars, read_set}
 use Rattle.cyp_text.specs.declared.tree.PartTree.{PartTree}
