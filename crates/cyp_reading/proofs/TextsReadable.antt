@@ -51,7 +51,7 @@ count_by Int n u us h = omega (arith, h)
 count_by Set n u us h = omega (arith, h)
 count_by Card n u us h = absurd (n refl)
 
-count_all : (sc : Scope) → ((u : Use) → Among u sc → u.sort ≢ Card) → length sc ≤ count_sort Int sc + count_sort Set sc
+pub count_all : (sc : Scope) → ((u : Use) → Among u sc → u.sort ≢ Card) → length sc ≤ count_sort Int sc + count_sort Set sc
 count_all [] h = omega arith
 count_all (u ∷ us) h = count_by u.sort (h u (inl refl)) u us (count_all us (λ w m. h w (inr m)))
 
@@ -106,7 +106,7 @@ pred_sizes qs q e =
 -- ---- bodies
 
 -- each chunk is of a kind
-in_a_kind : (c : ChunkTree) (cs : List ChunkTree) → Among c cs → Among c (in_kinds cs)
+pub in_a_kind : (c : ChunkTree) (cs : List ChunkTree) → Among c cs → Among c (in_kinds cs)
 in_a_kind (InstanceOf i xs) cs m = Among-left _ (filter is_instance cs ++ filter is_block cs) (filter is_cell cs) (Among-left _ (filter is_instance cs) (filter is_block cs) (filter_in is_instance (InstanceOf i xs) cs m refl))
 in_a_kind (BlockOf a p n) cs m = Among-left _ (filter is_instance cs ++ filter is_block cs) (filter is_cell cs) (Among-right _ (filter is_instance cs) (filter is_block cs) (filter_in is_block (BlockOf a p n) cs m refl))
 in_a_kind (NamedCell i t) cs m = Among-right _ (filter is_instance cs ++ filter is_block cs) (filter is_cell cs) (filter_in is_cell (NamedCell i t) cs m refl)
