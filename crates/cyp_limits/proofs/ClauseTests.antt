@@ -5,8 +5,9 @@ use Rattle.std.proofs.lemmas.List.{length-map}
 use Rattle.std.proofs.lemmas.List.Folds.{flat_map-map}
 use Rattle.cyp_heap.specs.Limits.{chunk_elements}
 use Rattle.cyp_heap.specs.PredsFormed.{clause_elements, is_clause_within}
-use Rattle.cyp_limits.proofs.KindsTogether.{InstancesAlone, flat_map-in_kinds, length-in_kinds}
+use Rattle.cyp_limits.proofs.KindsTogether.{InstancesAlone, flat_map-in_kinds}
 use Rattle.cyp_limits.specs.Elements.{body_elements, tree_elements}
+use Rattle.cyp_reading.proofs.TextsReadable.{kinds_length}
 use Rattle.cyp_term.specs.Terms.{lit_elements, term_eq, without_repeats}
 use Rattle.cyp_term.specs.declared.term.Sort.TheVariants.{Int, Set}
 use Rattle.cyp_term.specs.declared.term.Term.{Term}
@@ -41,7 +42,7 @@ module _ (qs : List PredTree) (sc : Scope) where
       flat_map-map chunk_elements (read_chunk qs sc) (in_kinds cs) ∙ flat_map-in_kinds (tree_elements qs sc) (record { blocks = blocks_none; cells = cells_none }) cs
 
   pub chunks_count : (cs : List ChunkTree) → length (map (read_chunk qs sc) (in_kinds cs)) ≡ length cs
-  chunks_count cs = length-map (in_kinds cs) (read_chunk qs sc) ∙ length-in_kinds cs
+  chunks_count cs = length-map (in_kinds cs) (read_chunk qs sc) ∙ kinds_length cs
 
 -- ---- five tests
 

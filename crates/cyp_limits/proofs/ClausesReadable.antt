@@ -3,8 +3,8 @@ use Rattle.std.proofs.Common.{List, [], flat_map, length, subst, ◌+◌, ◌++�
 use Rattle.std.specs.Prelude.{nat_le, ◌&&◌}
 use Rattle.std.specs.List.{All}
 use Rattle.std.proofs.lemmas.Bool.{and_parts, leb-true}
-use Rattle.cyp_limits.proofs.KindsTogether.{in_a_kind}
-use Rattle.cyp_reading.proofs.SortedRead.{all_by, args_readable, lit_readable, pure_readable}
+use Rattle.cyp_reading.proofs.SortedRead.{Sorted, all_by, args_readable, lit_readable, pure_readable, sorted_flat, sorted_left, sorted_right}
+use Rattle.cyp_reading.proofs.TextsReadable.{count_all, in_a_kind}
 use Rattle.cyp_limits.specs.Elements.{ArgsOf}
 use Rattle.cyp_reading.specs.Readable.{LitReadable, PureReadable}
 use Rattle.cyp_reading.specs.Small.{ChunkSmall, ClauseSmall}
@@ -32,53 +32,38 @@ use Rattle.cyp_text.specs.declared.tree.PureTree.TheVariants.{Items}
 
 -- ---- few names
 
-by_sort : (s : Sort) → s ≢ Card → (u : Use) (us : Scope) → length us ≤ count_sort Int us + count_sort Set us
-    → length (u ∷ us) ≤ length (cond (sort_eq s Int) (u ∷ filter (λ (w : Use). sort_eq w.sort Int) us) (filter (λ (w : Use). sort_eq w.sort Int) us))
-    + length (cond (sort_eq s Set) (u ∷ filter (λ (w : Use). sort_eq w.sort Set) us) (filter (λ (w : Use). sort_eq w.sort Set) us))
-by_sort Int n u us h = omega (arith, h)
-by_sort Set n u us h = omega (arith, h)
-by_sort Card n u us h = absurd (n refl)
-
-pub by_sorts : (sc : Scope) → ArePlain sc → length sc ≤ count_sort Int sc + count_sort Set sc
-by_sorts [] h = omega arith
-by_sorts (u ∷ us) h = by_sort u.sort (h u (inl refl)) u us (by_sorts us (λ w m. h w (inr m)))
-
 pub few_names : (sc : Scope) → ArePlain sc → (nat_le (count_sort Int sc) 64 && nat_le (count_sort Set sc) 32) ≡ true → length sc ≤ 255
 few_names sc plain h =
     let parts = and_parts (nat_le (count_sort Int sc) 64) (nat_le (count_sort Set sc) 32) h in
-    omega (arith, by_sorts sc plain, leb-true (count_sort Int sc) 64 parts.0, leb-true (count_sort Set sc) 32 parts.1)
+    omega (arith, count_all sc plain, leb-true (count_sort Int sc) 64 parts.0, leb-true (count_sort Set sc) 32 parts.1)
 
 -- ---- a body whose names have their sorts in a scope
 
--- the names have their sorts
-abbrev pub SortedIn : Scope → List Use → Type 0
-SortedIn sc us = (u : Use) → Among u us → sort_in sc u.name.text ≡ u.sort
-
 module _ (qs : List PredTree) (sc : Scope) where
-  args_of : (c : ChunkTree) → ChunkSmall c → SortedIn sc (chunk_uses kept_parts qs c) → ArgsOf qs sc c
+  args_of : (c : ChunkTree) → ChunkSmall c → Sorted sc (chunk_uses kept_parts qs c) → ArgsOf qs sc c
   args_of (InstanceOf i xs) k h = args_readable sc (arg_sorts qs i xs) (arg_sorts_plain qs i xs) xs k h
   args_of (BlockOf a p n) k h = tt
   args_of (NamedCell i t) k h = tt
   args_of (TermCell a t) k h = tt
 
-  module _ (b : BodyTree) (sorted : SortedIn sc (kept_body qs b)) where
+  module _ (b : BodyTree) (sorted : Sorted sc (kept_body qs b)) where
     abbrev lit_part : List Use
     lit_part = flat_map (kept_lit false) (body_lits b)
 
     abbrev chunk_part : List Use
     chunk_part = flat_map (chunk_uses kept_parts qs) (in_kinds b.chunks)
 
-    pub lits_sorted : (l : LitTree) → Among l (body_lits b) → SortedIn sc (kept_lit false l)
-    lits_sorted l m u k = sorted u (Among-left u lit_part chunk_part (flat_in (kept_lit false) u l (body_lits b) m k))
+    pub lits_sorted : (l : LitTree) → Among l (body_lits b) → Sorted sc (kept_lit false l)
+    lits_sorted l m = sorted_flat sc (kept_lit false) l (body_lits b) m (sorted_left sc lit_part chunk_part sorted)
 
     pub chunks_args : All ChunkSmall b.chunks → All (ArgsOf qs sc) b.chunks
     chunks_args = all_by ChunkSmall (ArgsOf qs sc) b.chunks (λ c m k.
-        args_of c k (λ u n. sorted u (Among-right u lit_part chunk_part (flat_in (chunk_uses kept_parts qs) u c (in_kinds b.chunks) (in_a_kind c b.chunks m) n))))
+        args_of c k (sorted_flat sc (chunk_uses kept_parts qs) c (in_kinds b.chunks) (in_a_kind c b.chunks m) (sorted_right sc lit_part chunk_part sorted)))
 
 -- ---- a clause
 
 module _ (qs : List PredTree) (ps : List ParamTree) (c : ClauseTree) (once : repeats [] (param_names ps) ≡ []) (none : clause_faults qs ps c ≡ []) where
-  body_sorted : SortedIn (clause_scope qs ps c) (kept_body qs c.body)
+  body_sorted : Sorted (clause_scope qs ps c) (kept_body qs c.body)
   body_sorted u m = name_sort qs ps c once none u (Among-right u (param_uses ps ++ kept_lit false c.guard) (kept_body qs c.body) m)
 
   pub guard_ready : ClauseSmall c → LitReadable (clause_scope qs ps c) c.guard

@@ -11,11 +11,9 @@ use Rattle.cyp_heap.specs.Limits.{chunk_elements, goal_elements, is_goal_within}
 use Rattle.cyp_heap.specs.declared.chunk.Chunk.{Chunk}
 use Rattle.cyp_heap.specs.declared.chunk.Chunk.TheVariants.{Block, Cell, Inst}
 use Rattle.cyp_heap.specs.declared.goal.Goal.{Goal}
-use Rattle.cyp_limits.proofs.ClausesReadable.{by_sorts}
 use Rattle.cyp_limits.proofs.ClauseTests.{chunks_count}
 use Rattle.cyp_limits.proofs.GoalsDressed.{clamp, goal_mended}
-use Rattle.cyp_limits.proofs.KindsTogether.{in_a_kind}
-use Rattle.cyp_reading.proofs.SortedRead.{all_by, chunk_readable, pure_readable}
+use Rattle.cyp_reading.proofs.TextsReadable.{body_readable, cards_length, count_all}
 use Rattle.cyp_reading.specs.Mended.{mended_text}
 use Rattle.cyp_reading.specs.Readable.{BodyReadable, ChunkReadable}
 use Rattle.cyp_reading.specs.ReadableTexts.{GoalReadable}
@@ -37,22 +35,6 @@ use Rattle.cyp_text.specs.declared.tree.BodyTree.{BodyTree}
 use Rattle.cyp_text.specs.declared.tree.ChunkTree.{ChunkTree}
 use Rattle.cyp_text.specs.declared.tree.PredTree.{PredTree}
 use Rattle.cyp_text.specs.declared.tree.TextTree.{TextTree}
-
--- ---- a body
-
-module _ (qs : List PredTree) (few : length qs < 256) (sc : Scope) (b : BodyTree) (small : BodySmall b) (sorted : (u : Use) → Among u (kept_body qs b) → sort_in sc u.name.text ≡ u.sort) where
-  abbrev lit_part : List Use
-  lit_part = flat_map (kept_lit false) (body_lits b)
-
-  abbrev chunk_part : List Use
-  chunk_part = flat_map (chunk_uses kept_parts qs) (in_kinds b.chunks)
-
-  body_ready : BodyReadable qs sc b
-  body_ready = record {
-    pure = pure_readable sc b.pure small.pure (λ l m u k. sorted u (Among-left u lit_part chunk_part (flat_in (kept_lit false) u l (body_lits b) m k)));
-    chunks = all_by ChunkSmall (ChunkReadable qs sc) b.chunks (λ c m k.
-        chunk_readable sc qs few c k (λ u n. sorted u (Among-right u lit_part chunk_part (flat_in (chunk_uses kept_parts qs) u c (in_kinds b.chunks) (in_a_kind c b.chunks m) n)))) small.chunks;
-  }
 
 -- ---- other sizes of blocks
 
@@ -88,12 +70,6 @@ within_resized g = λ i.
 
 -- ---- the goal of a text
 
-cards_count : (k : ℕ) (cs : List Chunk) → length (with_cards k cs) ≡ length cs
-cards_count k [] = refl
-cards_count k (Inst i ∷ cs) = ap suc (cards_count (suc k) cs)
-cards_count k (Block b ∷ cs) = ap suc (cards_count k cs)
-cards_count k (Cell c ∷ cs) = ap suc (cards_count k cs)
-
 module _ (t : TextTree) where
   pub within_mended : is_goal_within (read_goal (mended_text t)) ≡ is_goal_within (read_goal t)
   within_mended = ap is_goal_within (goal_mended t) ∙ within_resized (read_goal t)
@@ -102,7 +78,7 @@ module _ (t : TextTree) where
   pub many_in_pre : 16 < length t.pre.chunks → is_goal_within (read_goal t) ≡ false
   many_in_pre h =
       let g : Goal = read_goal t in
-      let count : length g.pre.chunks ≡ length t.pre.chunks = cards_count 0 (read_chunks t.preds (goal_scope t) t.pre) ∙ chunks_count t.preds (goal_scope t) t.pre.chunks in
+      let count : length g.pre.chunks ≡ length t.pre.chunks = cards_length 0 (read_chunks t.preds (goal_scope t) t.pre) ∙ chunks_count t.preds (goal_scope t) t.pre.chunks in
       let fails : nat_le (length g.pre.chunks) 16 ≡ false = lt-leb (length g.pre.chunks) 16 (omega (arith, count, h)) in
       let ws : List Var = without_repeats var_eq (goal_vars g) in
       ap (λ (x : Bool). x && nat_le (length g.post.chunks) 16 && nat_le (length g.pure_pre) 40 && nat_le (length g.pure_post) 40 && nat_le (length g.program) 12
@@ -120,10 +96,10 @@ module _ (t : TextTree) where
 
     pub goal_ready : length t.preds < 256 → TextSmall t → length t.pre.chunks ≤ 16 → count_sort Int (goal_scope t) ≤ 64 → count_sort Set (goal_scope t) ≤ 64 → GoalReadable t
     goal_ready few small chunks ints sets = record {
-      few = omega (arith, by_sorts (goal_scope t) (goal_plain t), ints, sets);
+      few = omega (arith, count_all (goal_scope t) (goal_plain t), ints, sets);
       few_chunks = omega (arith, chunks);
-      pre = body_ready t.preds few (goal_scope t) t.pre small.pre (λ u m.
+      pre = body_readable t.preds few (goal_scope t) t.pre small.pre (λ u m.
           name_sort t right u (Among-left u (param_uses t.params ++ kept_body t.preds t.pre) (kept_body t.preds t.post) (Among-right u (param_uses t.params) (kept_body t.preds t.pre) m)));
-      post = body_ready t.preds few (goal_scope t) t.post small.post (λ u m.
+      post = body_readable t.preds few (goal_scope t) t.post small.post (λ u m.
           name_sort t right u (Among-right u (param_uses t.params ++ kept_body t.preds t.pre) (kept_body t.preds t.post) m));
     }

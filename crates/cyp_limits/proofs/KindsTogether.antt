@@ -1,4 +1,4 @@
--- Chunks by their kinds are the same chunks.
+-- Chunks by their kinds have what the chunks have, where blocks and cells have nothing.
 use Rattle.std.proofs.Common.{◌≡◌, ◌∙◌, [], ◌∷◌, ◌++◌, List, Bool, true, false, cond, filter, flat_map, length, ◌+◌, ℕ, refl, ap, ap₂, append-nil, sym, arith}
 use Rattle.std.proofs.lemmas.Grind.{flat_map-append}
 use Rattle.std.proofs.lemmas.List.{length-append}
@@ -6,19 +6,6 @@ use Rattle.cyp_term.proofs.Lists.{Among, Among-left, Among-right, filter_in}
 use Rattle.cyp_text.specs.Bodies.{in_kinds, is_block, is_cell, is_instance}
 use Rattle.cyp_text.specs.declared.tree.ChunkTree.{ChunkTree}
 use Rattle.cyp_text.specs.declared.tree.ChunkTree.TheVariants.{BlockOf, InstanceOf, NamedCell, TermCell}
-
-three_kinds : (cs : List ChunkTree) → length (filter is_instance cs) + length (filter is_block cs) + length (filter is_cell cs) ≡ length cs
-three_kinds [] = omega arith
-three_kinds (InstanceOf i xs ∷ cs) = omega (arith, three_kinds cs)
-three_kinds (BlockOf a p n ∷ cs) = omega (arith, three_kinds cs)
-three_kinds (NamedCell i t ∷ cs) = omega (arith, three_kinds cs)
-three_kinds (TermCell a t ∷ cs) = omega (arith, three_kinds cs)
-
-pub length-in_kinds : (cs : List ChunkTree) → length (in_kinds cs) ≡ length cs
-length-in_kinds cs =
-    omega (arith, length-append (filter is_instance cs ++ filter is_block cs) (filter is_cell cs), length-append (filter is_instance cs) (filter is_block cs), three_kinds cs)
-
--- ---- what instances alone have
 
 module _ {A : Type 0} (f : ChunkTree → List A) where
   -- blocks and cells have none
@@ -50,10 +37,3 @@ module _ {A : Type 0} (f : ChunkTree → List A) where
         ∙ ap (λ (us : List A). flat_map f (filter is_instance cs) ++ us) (none_of is_block alone.blocks cs)
         ∙ append-nil (flat_map f (filter is_instance cs))
         ∙ instances_are_all cs
-
--- each chunk is of a kind
-pub in_a_kind : (c : ChunkTree) (cs : List ChunkTree) → Among c cs → Among c (in_kinds cs)
-in_a_kind (InstanceOf i xs) cs m = Among-left _ (filter is_instance cs ++ filter is_block cs) (filter is_cell cs) (Among-left _ (filter is_instance cs) (filter is_block cs) (filter_in is_instance (InstanceOf i xs) cs m refl))
-in_a_kind (BlockOf a p n) cs m = Among-left _ (filter is_instance cs ++ filter is_block cs) (filter is_cell cs) (Among-right _ (filter is_instance cs) (filter is_block cs) (filter_in is_block (BlockOf a p n) cs m refl))
-in_a_kind (NamedCell i t) cs m = Among-right _ (filter is_instance cs ++ filter is_block cs) (filter is_cell cs) (filter_in is_cell (NamedCell i t) cs m refl)
-in_a_kind (TermCell a t) cs m = Among-right _ (filter is_instance cs ++ filter is_block cs) (filter is_cell cs) (filter_in is_cell (TermCell a t) cs m refl)

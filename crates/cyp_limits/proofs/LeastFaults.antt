@@ -92,17 +92,3 @@ none_least (a ∷ fs) e = absurd (none-some (lesser a (least_fault fs)) (sym e))
 pub least_first : (xs ys : List Fault) (f : Fault) → least_fault xs ≡ Some f → ((x y : Fault) → Among x xs → Among y ys → x.place < y.place) → least_fault (xs ++ ys) ≡ Some f
 least_first xs ys f e h =
     least_fault-append xs ys ∙ ap (λ (o : Option Fault). lesser_of o (least_fault ys)) e ∙ ap Some (first_of_all f ys (λ g m. h f g (least_among xs f e) m))
-
--- ---- loops
-
--- a turn of a loop that takes the least fault of what each item brings
-pub least_turn : {V : Type 0} (f : V → List Fault) (vs : List V) (i : ℕ) (d : V) (old new whole : Option Fault) → i < length vs → d ≡ get_or vs i d
-    → new ≡ lesser_of old (least_fault (f d)) → lesser_of old (least_fault (flat_map f (drop i vs))) ≡ whole → lesser_of new (least_fault (flat_map f (drop (i + 1) vs))) ≡ whole
-least_turn f vs i d old new whole l at taken h =
-    let rest : List Fault = flat_map f (drop (i + 1) vs) in
-    let here : least_fault (flat_map f (drop i vs)) ≡ lesser_of (least_fault (f d)) (least_fault rest) =
-    ap (λ (us : List _). least_fault (flat_map f us)) (drop_here vs i d l) ∙ least_fault-append (f (get_or vs i d)) rest ∙ ap (λ (v : _). lesser_of (least_fault (f v)) (least_fault rest)) (sym at) in
-    ap (λ (o : Option Fault). lesser_of o (least_fault rest)) taken ∙ lesser_of-assoc old (least_fault (f d)) (least_fault rest) ∙ ap (lesser_of old) (sym here) ∙ h
-
-pub least_end : {V : Type 0} (f : V → List Fault) (vs : List V) (i : ℕ) (old whole : Option Fault) → length vs ≤ i → lesser_of old (least_fault (flat_map f (drop i vs))) ≡ whole → old ≡ whole
-least_end f vs i old whole l h = sym (lesser_of-none old) ∙ ap (λ (us : List _). lesser_of old (least_fault (flat_map f us))) (sym (drop_all i vs l)) ∙ h

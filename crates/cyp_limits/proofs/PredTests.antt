@@ -4,6 +4,7 @@ use Rattle.std.specs.List.{All, list_all}
 use Rattle.std.proofs.lemmas.Bool.{and_parts, le-leb, lt-leb}
 use Rattle.std.proofs.lemmas.List.{length-map}
 use Rattle.cyp_goal.proofs.Maps.{list_all-map}
+use Rattle.cyp_goal.proofs.Occurring.{among_at as there}
 use Rattle.cyp_heap.specs.PredsFormed.{is_clause_within}
 use Rattle.cyp_term.proofs.Lists.{Among, each_at}
 use Rattle.cyp_text.proofs.FormedInstances.{none_both, none_each}
@@ -17,9 +18,7 @@ use Rattle.cyp_text.specs.declared.tree.PredTree.{PredTree}
 -- ---- items of lists
 
 pub among_at : {A : Type 0} (xs : List A) (i : ℕ) (d : A) → i < length xs → d ≡ get_or xs i d → Among d xs
-among_at [] i d l e = absurd (omega (arith, l))
-among_at (x ∷ xs) zero d l e = inl e
-among_at (x ∷ xs) (suc i) d l e = inr (among_at xs i d (omega (arith, l)) e)
+among_at xs i d l e = subst (λ (y : _). Among y xs) (sym e) (there xs i d l)
 
 pub all_at : {A : Type 0} (P : A → Type 0) (xs : List A) (i : ℕ) (d : A) → All P xs → i < length xs → d ≡ get_or xs i d → P d
 all_at P xs i d h l e = subst P (sym e) (h i d l)

@@ -1,11 +1,9 @@
-use Rattle.std.proofs.Common.{◌∙◌, ap}
-use Rattle.cyp_limits.proofs.LeastFaults.{least_turn}
-use Rattle.cyp_names.specs.LeastFaults.{lesser_of}
+use Rattle.cyp_names.proofs.LesserFaults.{least_more}
 use Rattle.cyp_text.specs.LimitFaults.{size_faults}
 use Rattle.cyp_text.specs.declared.tree.ClauseTree.{ClauseTree}
 use Rattle.cyp_limits.proofs.pred_limits.blocks_fault.Goals as goal
 
 pub loop-clause-preserved : goal.loop-clause-preserved
 loop-clause-preserved c =
-    least_turn (λ (d : ClauseTree). size_faults d.body) c.as_slice-others.result.now c.loop-clause.clause-index c.clause-item.result _ _ _ c.loop-clause-test.true c.clause-item.is
-    (c.lesser-least.ensures ∙ ap (lesser_of c.loop-clause.least) c.sizes_fault.ensures) c.loop-clause.invariant
+    least_more (λ (d : ClauseTree). size_faults d.body) c.as_slice-others.result.now c.loop-clause.clause-index c.clause-item.result c.loop-clause.least c.sizes_fault.result c.lesser-least.result _
+    c.loop-clause-test.true c.clause-item.is c.sizes_fault.ensures c.lesser-least.ensures c.loop-clause.invariant

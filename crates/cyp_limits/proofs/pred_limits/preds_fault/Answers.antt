@@ -1,8 +1,6 @@
-use Rattle.std.proofs.Common.{◌∙◌, ap}
-use Rattle.cyp_limits.proofs.LeastFaults.{least_turn}
 use Rattle.cyp_limits.proofs.PredTests.{all_at, among_at}
 use Rattle.cyp_limits.specs.InOrder.{is_name_first}
-use Rattle.cyp_names.specs.LeastFaults.{lesser_of}
+use Rattle.cyp_names.proofs.LesserFaults.{least_more}
 use Rattle.cyp_reading.specs.Small.{PredSmall}
 use Rattle.cyp_term.proofs.Lists.{each_at}
 use Rattle.cyp_text.proofs.FormedInstances.{none_each}
@@ -12,8 +10,8 @@ use Rattle.cyp_limits.proofs.pred_limits.preds_fault.Goals as goal
 
 pub loop-pred-preserved : goal.loop-pred-preserved
 loop-pred-preserved c =
-    least_turn (pred_limit_faults c.args.preds.now) c.args.preds.now c.loop-pred.pred-index c.pred-item.result _ _ _ c.loop-pred-test.true c.pred-item.is
-    (c.lesser-least.ensures ∙ ap (lesser_of c.loop-pred.least) c.in_ok-pred_fault.ensures) c.loop-pred.invariant
+    least_more (pred_limit_faults c.args.preds.now) c.args.preds.now c.loop-pred.pred-index c.pred-item.result c.loop-pred.least c.in_ok-pred_fault.field-0 c.lesser-least.result _ c.loop-pred-test.true
+    c.pred-item.is c.in_ok-pred_fault.ensures c.lesser-least.ensures c.loop-pred.invariant
 
 pub pred_fault-requires : goal.pred_fault-requires
 pred_fault-requires c =
