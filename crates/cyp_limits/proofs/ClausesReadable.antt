@@ -3,7 +3,8 @@ use Rattle.std.proofs.Common.{List, [], flat_map, length, subst, ◌+◌, ◌++�
 use Rattle.std.specs.Prelude.{nat_le, ◌&&◌}
 use Rattle.std.specs.List.{All}
 use Rattle.std.proofs.lemmas.Bool.{and_parts, leb-true}
-use Rattle.cyp_reading.proofs.SortedRead.{Sorted, all_by, args_readable, lit_readable, pure_readable, sorted_flat, sorted_left, sorted_right}
+use Rattle.cyp_reading.proofs.Alls.{all_by}
+use Rattle.cyp_reading.proofs.SortedRead.{Sorted, args_readable, lit_readable, pure_readable, sorted_flat, sorted_left, sorted_right}
 use Rattle.cyp_reading.proofs.TextsReadable.{count_all, in_a_kind}
 use Rattle.cyp_limits.specs.Elements.{ArgsOf}
 use Rattle.cyp_reading.specs.Readable.{LitReadable, PureReadable}
