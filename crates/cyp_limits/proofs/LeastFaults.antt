@@ -92,3 +92,9 @@ none_least (a ∷ fs) e = absurd (none-some (lesser a (least_fault fs)) (sym e))
 pub least_first : (xs ys : List Fault) (f : Fault) → least_fault xs ≡ Some f → ((x y : Fault) → Among x xs → Among y ys → x.place < y.place) → least_fault (xs ++ ys) ≡ Some f
 least_first xs ys f e h =
     least_fault-append xs ys ∙ ap (λ (o : Option Fault). lesser_of o (least_fault ys)) e ∙ ap Some (first_of_all f ys (λ g m. h f g (least_among xs f e) m))
+
+-- ---- loops
+
+-- at the end of a loop that takes the least fault of what each item brings, it is that of all
+pub least_end : {V : Type 0} (f : V → List Fault) (vs : List V) (i : ℕ) (old whole : Option Fault) → length vs ≤ i → lesser_of old (least_fault (flat_map f (drop i vs))) ≡ whole → old ≡ whole
+least_end f vs i old whole l h = sym (lesser_of-none old) ∙ ap (λ (us : List _). lesser_of old (least_fault (flat_map f us))) (sym (drop_all i vs l)) ∙ h

@@ -1,12 +1,14 @@
 -- The limits of a predicate as its tree tells them, and its clauses one by one.
-use Rattle.std.proofs.Common.{◌≡◌, ◌∙◌, [], ◌∷◌, ◌++◌, ◌&&◌, List, Bool, true, false, flat_map, get_or, length, map, nat_le, ℕ, suc, zero, ◌+◌, ◌<◌, ◌≤◌, refl, ap, subst, sym, inl, inr, arith}
+use Rattle.std.proofs.Common.{◌≡◌, ◌∙◌, [], ◌∷◌, ◌++◌, ◌&&◌, List, Bool, true, drop, false, flat_map, get_or, length, map, nat_le, ℕ, suc, zero, ◌+◌, ◌<◌, ◌≤◌, refl, ap, subst, sym, inl, inr, arith}
 use Rattle.std.specs.List.{All, list_all}
 use Rattle.std.proofs.lemmas.Bool.{and_parts, le-leb, lt-leb}
 use Rattle.std.proofs.lemmas.List.{length-map}
+use Rattle.std.proofs.lemmas.List.Folds.{list_all_at}
 use Rattle.cyp_goal.proofs.Maps.{list_all-map}
 use Rattle.cyp_goal.proofs.Occurring.{among_at as there}
 use Rattle.cyp_heap.specs.PredsFormed.{is_clause_within}
 use Rattle.cyp_term.proofs.Lists.{Among, each_at}
+use Rattle.cyp_term.proofs.Turns.{drop_here}
 use Rattle.cyp_text.proofs.FormedInstances.{none_both, none_each}
 use Rattle.cyp_text.specs.LimitFaults.{is_pred_within}
 use Rattle.cyp_text.specs.NameFaults.{clause_faults, clauses, param_names, pred_faults, repeats}
@@ -22,6 +24,23 @@ among_at xs i d l e = subst (λ (y : _). Among y xs) (sym e) (there xs i d l)
 
 pub all_at : {A : Type 0} (P : A → Type 0) (xs : List A) (i : ℕ) (d : A) → All P xs → i < length xs → d ≡ get_or xs i d → P d
 all_at P xs i d h l e = subst P (sym e) (h i d l)
+
+-- ---- a loop that tests each item
+
+module _ {A : Type 0} (test : A → Bool) (xs : List A) (i : ℕ) (d : A) (l : i < length xs) (at : d ≡ get_or xs i d) where
+  abbrev rest : Bool
+  rest = list_all test (drop (i + 1) xs)
+
+  here : list_all test (drop i xs) ≡ (test d && rest)
+  here = ap (list_all test) (drop_here xs i d l) ∙ ap (λ (x : A). test x && rest) (sym at)
+
+  -- one that fails decides
+  pub one_fails : test d ≡ false → false ≡ list_all test xs
+  one_fails e = sym (list_all_at test xs i d l (ap test (sym at) ∙ e))
+
+  -- one that passes leaves the others
+  pub all_go_on : test d ≡ true → list_all test (drop i xs) ≡ list_all test xs → rest ≡ list_all test xs
+  all_go_on e h = sym (here ∙ ap (λ (b : Bool). b && rest) e) ∙ h
 
 -- ---- a predicate
 

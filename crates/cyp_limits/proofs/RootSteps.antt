@@ -5,7 +5,7 @@ use Rattle.std.specs.List.{All}
 use Rattle.std.proofs.lemmas.Bool.{leb-true}
 use Rattle.std.proofs.lemmas.List.{length-map}
 use Rattle.cyp_goal.specs.Normal.{normal}
-use Rattle.cyp_heap.specs.Formed.{IsWellLinked, insts_fit}
+use Rattle.cyp_heap.specs.Formed.{insts_fit}
 use Rattle.cyp_heap.specs.Limits.{is_goal_within}
 use Rattle.cyp_heap.specs.PredsFormed.{IsFormedPreds}
 use Rattle.cyp_heap.specs.PredsValue.{PredsValue}
@@ -33,13 +33,6 @@ use Rattle.cyp_term.specs.declared.term.Sort.TheVariants.{Int, Set}
 
 nothing_small : BodySmall no_body
 nothing_small = record { pure = tt; chunks = λ k d l. absurd (omega (arith, l)) }
-
--- a node without companions is well linked
-pub no_links : (preds : PredsValue) (g : Goal) (ks : List Link) → ks ≡ [] → IsWellLinked (record { preds = preds; goal = g; links = ks })
-no_links preds g ks e = subst (λ (ls : List Link). IsWellLinked (record { preds = preds; goal = g; links = ls })) (sym e) none
-  where
-    none : IsWellLinked (record { preds = preds; goal = g; links = [] })
-    none = record { few = refl; goals_within = refl; goals_fit = refl; grows = refl; short = refl; own_as_long = refl }
 
 module _ (t : TextTree) (right : name_faults t ≡ []) (none : preds_part t.preds ≡ []) (small : TextSmall t) where
   formed_here : IsFormedPreds (read_preds t.preds)
@@ -85,6 +78,9 @@ module _ (t : TextTree) (right : name_faults t ≡ []) (none : preds_part t.pred
   written_decides o w e =
       let fails : is_goal_within (read_goal t) ≡ false = subst (λ (x : Option Goal). IsWritten t x) e w in
       sym (ap (λ (x : Bool). x && is_some (normal (root_of (read_tree t)))) fails)
+
+  pub written_within : (o : Option Goal) → IsWritten t o → (g : Goal) → o ≡ Some g → is_goal_within (read_goal t) ≡ true
+  written_within o w g e = let some : IsWritten t (Some g) = subst (λ (x : Option Goal). IsWritten t x) e w in some.0
 
   pub normal_decides : (b : Bool) → is_goal_within (read_goal t) ≡ true → b ≡ is_some (normal (root_of (read_tree t))) → b ≡ is_root_within (read_tree t)
   normal_decides b w e = e ∙ sym (ap (λ (x : Bool). x && is_some (normal (root_of (read_tree t)))) w)

@@ -1,4 +1,5 @@
 pub mod Elements
+pub mod GoalLimits
 pub mod InOrder
 pub mod LimitParts
 pub mod WrittenGoals

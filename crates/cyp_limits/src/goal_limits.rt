@@ -1,8 +1,9 @@
-ghost use Rattle.std.specs.Prelude.{[], IfOk, OnOk, count_by, length, nat_le, ◌&&◌, ◌++◌, ◌≡◌};
+ghost use Rattle.std.specs.Prelude.{[], IfOk, OnOk, length, ◌++◌, ◌≡◌};
 ghost use Rattle.std.specs.List.{filter, flat_map, list_any};
 ghost use Rattle.cyp_heap.specs.Chunks.{arg_vars, card_vars, chunk_vars, chunks_vars};
 ghost use Rattle.cyp_heap.specs.Goals.{goal_vars};
 ghost use Rattle.cyp_heap.specs.Limits.{chunk_elements, goal_elements, is_goal_within};
+ghost use Rattle.cyp_limits.specs.GoalLimits.{is_goal_with};
 ghost use Rattle.cyp_term.specs.Terms.{is_set_var, lit_vars, lits_vars, set_vars, sort_eq, term_eq, term_vars, var_eq, var_in, with_new, without_repeats};
 ghost use Rattle.cyp_term.specs.declared.term.Sort.TheVariants.{Int};
 ghost use Rattle.cyp_term.specs.declared.term.Var.{Var as TheVar};
@@ -216,14 +217,19 @@ fn elements_of(alloc: Global, goal: &Goal) -> Result<Vec<Term>, NoMemory>
 
 // ---- limits
 
-fn are_lists_short(goal: &Goal) -> bool
-    ensures { result ≡ (nat_le (length goal.now.pre.chunks) 16 && nat_le (length goal.now.post.chunks) 16 && nat_le (length goal.now.pure_pre) 40 && nat_le (length goal.now.pure_post) 40 && nat_le (length goal.now.program) 12) }
+/// Whether a goal with these different variables passes no limit as it is written, where it is told
+/// whether its element terms are few.
+fn is_within(goal: &Goal, vars: &[Var], elements_are_few: bool) -> bool
+    ensures { result ≡ is_goal_with goal.now vars.now elements_are_few }
 {
     goal.pre.chunks().len() <= MOST_CHUNKS
         && goal.post.chunks().len() <= MOST_CHUNKS
         && goal.pure_pre.len() <= MOST_LITS
         && goal.pure_post.len() <= MOST_LITS
         && goal.program.len() <= MOST_PROGRAM
+        && count_ints(vars) <= MOST_INTS
+        && count_sets(vars) <= MOST_SETS
+        && elements_are_few
 }
 
 /// Whether a goal passes no limit as it is written.
@@ -233,11 +239,6 @@ pub(crate) fn is_goal_within(alloc: Global, goal: &Goal) -> Result<bool, NoMemor
     let all = vars_of(alloc, goal)?;
     let vars = different(alloc, all.as_slice())?;
     let terms = elements_of(alloc, goal)?;
-    let elements_are_few = are_few(alloc, terms.as_slice(), MOST_ELEMENTS)?;
-    Ok(
-        are_lists_short(goal)
-            && count_ints(vars.as_slice()) <= MOST_INTS
-            && count_sets(vars.as_slice()) <= MOST_SETS
-            && elements_are_few,
-    )
+    let few = are_few(alloc, terms.as_slice(), MOST_ELEMENTS)?;
+    Ok(is_within(goal, vars.as_slice(), few))
 }

@@ -19,8 +19,8 @@ guard_of-requires c =
       within = first_within_at c.args.preds.now c.args.pred.now ps c.as_slice-params.ensures cs c.as_slice-others.ensures r.within;
     }
 
-pub guard_of-guard-requires : goal.guard_of-guard-requires
-guard_of-guard-requires c =
+pub guard_of-requires-in-loop-clause : goal.guard_of-requires-in-loop-clause
+guard_of-requires-in-loop-clause c =
     let r = c.requires in
     let ps = c.as_slice-params.result.now in
     let cs = c.as_slice-others.result.now in
@@ -57,9 +57,9 @@ loop-clause-preserved c =
     record {
       made = turn_at c.args.preds.now c.args.pred.now ps c.as_slice-params.ensures cs c.as_slice-others.ensures c.loop-clause.clause-index c.clause-item.result seen c.as_slice.result.now
           c.push-in-loop-clause.new.self.items c.in_ok-guard.guard c.loop-clause.least c.lesser-least.result c.in_ok-guard_fault.field-0 _
-          c.loop-clause-test.true c.clause-item.is c.in_ok-guard.ensures.guard c.as_slice.ensures.value c.in_ok-guard_fault.ensures c.lesser-least.ensures c.in_ok-push-in-loop-clause.ensures.items
+          c.loop-clause-test.true c.clause-item.is c.in_ok-guard.ensures.guard c.as_slice.ensures.value c.in_ok-guard_fault.ensures c.lesser-least.ensures c.in_ok-push-2.ensures.items
           c.loop-clause.invariant.made;
-      ints = ints_more seen c.push-in-loop-clause.new.self.items c.in_ok-guard.guard c.loop-clause.invariant.ints c.in_ok-guard.ensures.ints c.in_ok-push-in-loop-clause.ensures.items;
+      ints = ints_more seen c.push-in-loop-clause.new.self.items c.in_ok-guard.guard c.loop-clause.invariant.ints c.in_ok-guard.ensures.ints c.in_ok-push-2.ensures.items;
     }
 
 pub returns : goal.returns

@@ -1,10 +1,13 @@
+use Rattle.std.proofs.Common.{flat_map}
+use Rattle.std.specs.Prelude.{slice_get}
+use Rattle.cyp_limits.proofs.LeastFaults.{least_end}
 use Rattle.cyp_limits.proofs.PredTests.{all_at, among_at}
 use Rattle.cyp_limits.specs.InOrder.{is_name_first}
-use Rattle.cyp_names.proofs.LesserFaults.{least_more}
+use Rattle.cyp_names.proofs.LesserFaults.{least_more, least_of_two}
 use Rattle.cyp_reading.specs.Small.{PredSmall}
 use Rattle.cyp_term.proofs.Lists.{each_at}
 use Rattle.cyp_text.proofs.FormedInstances.{none_each}
-use Rattle.cyp_text.specs.LimitFaults.{pred_limit_faults}
+use Rattle.cyp_text.specs.LimitFaults.{extra_pred_fault, pred_limit_faults}
 use Rattle.cyp_text.specs.NameFaults.{pred_faults}
 use Rattle.cyp_limits.proofs.pred_limits.preds_fault.Goals as goal
 
@@ -22,3 +25,9 @@ pred_fault-requires c =
       small = all_at PredSmall qs c.loop-pred.pred-index c.pred-item.result c.requires.small c.loop-pred-test.true c.pred-item.is;
       order = each_at is_name_first c.pred-item.result qs c.requires.order there;
     }
+
+pub returns : goal.returns
+returns c =
+    let qs = c.args.preds.now in
+    least_of_two c.loop-pred.least c.extra_fault.result c.lesser.result (flat_map (pred_limit_faults qs) qs) (extra_pred_fault (slice_get qs 16))
+    (least_end (pred_limit_faults qs) qs c.loop-pred.pred-index c.loop-pred.least _ c.loop-pred-test.false c.loop-pred.invariant) c.extra_fault.ensures c.lesser.ensures
