@@ -266,7 +266,10 @@ fn a_predicate_is_printed_on_a_line_before_the_procedure(rt: HostRuntime) -> Res
     let text = written(rt.alloc(), list_preds(rt.alloc())?, goal)?;
     assert_eq!(rt;
         text.as_slice(),
-        b"predicate list(int x1, set s1) { | 0 < x1 => { s1 =i s2 ++ { x2 } && x1 <= x2 ; list(x3, s2) ** [x1, 2] ** x1 :-> x2 ** (x1 + 1) :-> x3 } }\nvoid f(int x1) { list(x1, s1) } { emp }\n".as_slice()
+        b"predicate list(int x1, set s1) { | 0 < x1 => { s1 =i s2 ++ { x2 } && x1 <= x2 ; \
+        list(x3, s2) ** [x1, 2] ** x1 :-> x2 ** (x1 + 1) :-> x3 } }\n\
+        void f(int x1) { list(x1, s1) } { emp }\n"
+            .as_slice()
     );
     Ok(())
 }
