@@ -1,6 +1,6 @@
 -- Lists that are printed item by item.
-use Rattle.std.proofs.Common.{List, [], ap, append_assoc, arith, drop, get_or, length, map, refl, sym, take, ℕ, ◌+◌, ◌++◌, ◌<◌, ◌≤◌, ◌∙◌, ◌∷◌, ◌≡◌}
-use Rattle.std.proofs.lemmas.List.{append-nil, take_more}
+use Rattle.std.proofs.Common.{List, [], ap, append_assoc, arith, drop, get_or, length, map, refl, sym, take, ℕ, ◌+◌, ◌++◌, ◌-◌, ◌<◌, ◌≤◌, ◌∙◌, ◌∷◌, ◌≡◌}
+use Rattle.std.proofs.lemmas.List.{append-nil, take_all, take_more}
 use Rattle.cyp_grammar.specs.Lexemes.{Said}
 use Rattle.cyp_grammar.specs.Spelling.{Any, Mark, all_spelling, more_spelling, separated}
 use Rattle.cyp_writing.specs.PrintMarks.{Printed, with_marks, with_said}
@@ -65,9 +65,16 @@ all_step spell xs i x start p r below is before item =
 
 -- ---- the ends
 
+-- what stands behind the first item
+pub behind_first : {A : Type 0} (xs : List A) → take (length xs - 1) (drop 1 xs) ≡ drop 1 xs
+behind_first [] = refl
+behind_first (x ∷ xs) = take_all (length (x ∷ xs) - 1) xs (omega arith)
+
 -- the first item, and then the others
 pub apart_ends : {A : Type 0} (k : Said) (spell : A → List Mark) (xs : List A) (x : A) (start p r : Printed)
-    → 1 ≤ length xs → x ≡ get_or xs 0 x → p ≡ with_marks start (spell x) → r ≡ with_marks p (more_spelling k spell (drop 1 xs)) → r ≡ with_marks start (separated k spell xs)
+    → 1 ≤ length xs → x ≡ get_or xs 0 x → p ≡ with_marks start (spell x) → r ≡ with_marks p (more_spelling k spell (take (length xs - 1) (drop 1 xs))) → r ≡ with_marks start (separated k spell xs)
 apart_ends k spell [] x start p r some is first rest = absurd (omega arith)
 apart_ends k spell (y ∷ ys) x start p r some is first rest =
-    both (spell y) (more_spelling k spell ys) start p r (first ∙ ap (λ z. with_marks start (spell z)) is) rest
+    both (spell y) (more_spelling k spell ys) start p r
+    (first ∙ ap (λ z. with_marks start (spell z)) is)
+    (rest ∙ ap (λ zs. with_marks p (more_spelling k spell zs)) (behind_first (y ∷ ys)))

@@ -1,5 +1,5 @@
 -- What a printer has written when it has written these tokens.
-use Rattle.std.specs.Prelude.{[], Bool, List, codes, cond, false, flat_map, map, not, true, ℕ, ◌++◌, ◌||◌, ◌∷◌}
+use Rattle.std.specs.Prelude.{[], Bool, List, codes, cond, false, not, ℕ, ◌++◌, ◌||◌, ◌∷◌}
 use Rattle.cyp_grammar.specs.Lexemes.{Name, Said, Symbol}
 use Rattle.cyp_grammar.specs.Spelling.{Mark}
 use Rattle.cyp_lex.specs.declared.token.Sign.TheVariants.{LeftBracket, LeftParen}

@@ -1,4 +1,4 @@
-use Rattle.std.proofs.Common.{ap, take, ◌∙◌}
+use Rattle.std.proofs.Common.{take, ◌∙◌}
 use Rattle.std.specs.Prelude.{flat_map}
 use Rattle.cyp_writing.proofs.PrintLines.{line_begins, lines_step, text_written}
 use Rattle.cyp_text.specs.Printing.{pred_line}

@@ -7,4 +7,4 @@ use Rattle.cyp_writing.proofs.printed_chunks.ArgPrint.print.Goals as goal
 
 pub returns-in-Set : goal.returns-in-Set
 returns-in-Set c =
-    rw c.in-Set.is (on_ok_weaker c.set.result (λ e. e ∙ ap (with_marks c.args.to.now) (sym (union_argument (parts_of c.in-Set.set.now)))) c.set.ensures)
+    rw c.in-Set.is (on_ok_weaker c.set.result (λ e. e ∙ ap (with_marks c.args.to.now) (sym (union_argument (parts_of c.in-Set.set)))) c.set.ensures)
