@@ -1,10 +1,10 @@
 -- What the code of a clause's limits knows at each step.
-use Rattle.std.proofs.Common.{[], ◌≡◌, ◌∙◌, ◌++◌, ◌&&◌, List, Bool, true, false, flat_map, length, map, nat_le, ℕ, ◌<◌, ◌≤◌, ap, subst, sym, arith}
+use Rattle.std.proofs.Common.{[], ◌≡◌, ◌∙◌, ◌++◌, ◌&&◌, List, Bool, true, false, flat_map, length, map, nat_le, ◌<◌, ◌≤◌, ap, subst, sym}
 use Rattle.std.specs.List.{All}
 use Rattle.std.proofs.lemmas.Bool.{and_parts}
 use Rattle.cyp_heap.specs.PredsFormed.{is_clause_within}
 use Rattle.cyp_limits.proofs.ClausesReadable.{args_ready, few_names, guard_ready, pure_ready, scope_plain}
-use Rattle.cyp_limits.proofs.ClauseTests.{elements_decide, many_chunks, many_lits, many_names, names_within}
+use Rattle.cyp_limits.proofs.ClauseTests.{elements_decide, many_lits, many_names, names_within}
 use Rattle.cyp_limits.specs.Elements.{ArgsOf, body_elements, tree_elements}
 use Rattle.cyp_reading.specs.Readable.{LitReadable, PureReadable}
 use Rattle.cyp_reading.specs.Small.{ClauseSmall}

@@ -1,20 +1,18 @@
 -- The limits of a clause as its tree tells them.
-use Rattle.std.proofs.Common.{◌≡◌, ◌∙◌, [], ◌++◌, ◌&&◌, List, Bool, true, false, flat_map, length, map, nat_le, ℕ, ◌<◌, ◌≤◌, refl, ap, sym, arith}
+use Rattle.std.proofs.Common.{◌≡◌, ◌∙◌, [], ◌++◌, ◌&&◌, List, Bool, true, false, flat_map, length, map, nat_le, ◌<◌, ◌≤◌, refl, ap, sym}
 use Rattle.std.proofs.lemmas.Bool.{and_from, and_parts, false≢true, le-leb, lt-leb}
 use Rattle.std.proofs.lemmas.List.{length-map}
 use Rattle.std.proofs.lemmas.List.Folds.{flat_map-map}
 use Rattle.cyp_heap.specs.Limits.{chunk_elements}
-use Rattle.cyp_heap.specs.PredsFormed.{clause_elements, is_clause_within}
-use Rattle.cyp_limits.proofs.KindsTogether.{InstancesAlone, flat_map-in_kinds}
+use Rattle.cyp_heap.specs.PredsFormed.{is_clause_within}
+use Rattle.cyp_limits.proofs.KindsTogether.{flat_map-in_kinds}
 use Rattle.cyp_limits.specs.Elements.{body_elements, tree_elements}
 use Rattle.cyp_reading.proofs.TextsReadable.{kinds_length}
 use Rattle.cyp_term.specs.Terms.{lit_elements, term_eq, without_repeats}
 use Rattle.cyp_term.specs.declared.term.Sort.TheVariants.{Int, Set}
-use Rattle.cyp_term.specs.declared.term.Term.{Term}
 use Rattle.cyp_text.specs.Bodies.{in_kinds, is_block, is_cell}
 use Rattle.cyp_text.specs.ReadTerms.{Scope, read_chunk, read_lits}
 use Rattle.cyp_text.specs.Specifications.{clause_scope, count_sort, read_clause}
-use Rattle.cyp_text.specs.declared.tree.BodyTree.{BodyTree}
 use Rattle.cyp_text.specs.declared.tree.ChunkTree.{ChunkTree}
 use Rattle.cyp_text.specs.declared.tree.ChunkTree.TheVariants.{BlockOf, InstanceOf, NamedCell, TermCell}
 use Rattle.cyp_text.specs.declared.tree.ClauseTree.{ClauseTree}

@@ -1,5 +1,5 @@
 -- A clause without faults of names and sorts, whose numbers are small, can be read in its scope.
-use Rattle.std.proofs.Common.{List, [], flat_map, length, subst, ◌+◌, ◌++◌, ◌≤◌, ◌≡◌, ◌≢◌, ℕ, arith, inl, inr, Bool, cond, filter, ◌∷◌, true, false, refl}
+use Rattle.std.proofs.Common.{List, [], flat_map, length, subst, ◌++◌, ◌≤◌, ◌≡◌, arith, true, false}
 use Rattle.std.specs.Prelude.{nat_le, ◌&&◌}
 use Rattle.std.specs.List.{All}
 use Rattle.std.proofs.lemmas.Bool.{and_parts, leb-true}
@@ -9,19 +9,17 @@ use Rattle.cyp_reading.proofs.TextsReadable.{count_all, in_a_kind}
 use Rattle.cyp_limits.specs.Elements.{ArgsOf}
 use Rattle.cyp_reading.specs.Readable.{LitReadable, PureReadable}
 use Rattle.cyp_reading.specs.Small.{ChunkSmall, ClauseSmall}
-use Rattle.cyp_term.proofs.Lists.{Among, Among-left, Among-right, flat_in}
-use Rattle.cyp_term.specs.Terms.{sort_eq}
-use Rattle.cyp_term.specs.declared.term.Sort.{Sort}
-use Rattle.cyp_term.specs.declared.term.Sort.TheVariants.{Card, Int, Set}
+use Rattle.cyp_term.proofs.Lists.{Among, Among-left, Among-right}
+use Rattle.cyp_term.specs.declared.term.Sort.TheVariants.{Int, Set}
 use Rattle.cyp_text.proofs.FormedClauses.{guard_within, kept, name_sort}
 use Rattle.cyp_text.proofs.PlainSorts.{ArePlain, arg_sorts_plain, body_plain, params_plain, plain_both}
 use Rattle.cyp_text.proofs.Scopes.{grow}
 use Rattle.cyp_text.specs.Bodies.{body_lits, in_kinds, kept_body, kept_lit, kept_parts}
 use Rattle.cyp_text.specs.LitTrees.{LitTree}
 use Rattle.cyp_text.specs.NameFaults.{clause_faults, param_names, repeats}
-use Rattle.cyp_text.specs.ReadTerms.{Scope, sort_in}
+use Rattle.cyp_text.specs.ReadTerms.{Scope}
 use Rattle.cyp_text.specs.Specifications.{clause_scope, count_sort}
-use Rattle.cyp_text.specs.Uses.{Use, arg_sorts, args_uses, chunk_uses, param_uses}
+use Rattle.cyp_text.specs.Uses.{Use, arg_sorts, chunk_uses, param_uses}
 use Rattle.cyp_text.specs.declared.tree.BodyTree.{BodyTree}
 use Rattle.cyp_text.specs.declared.tree.ChunkTree.{ChunkTree}
 use Rattle.cyp_text.specs.declared.tree.ChunkTree.TheVariants.{BlockOf, InstanceOf, NamedCell, TermCell}

@@ -1,13 +1,13 @@
 -- The goal of a mended text is that of the text with other sizes of blocks.
-use Rattle.std.proofs.Common.{◌≡◌, ◌∙◌, [], ◌∷◌, ◌++◌, ◌&&◌, List, Option, Some, None, Bool, true, cond, drop, filter, length, map, max, min, ℕ, suc, option_map, refl, ap, ap₂, sym}
+use Rattle.std.proofs.Common.{◌≡◌, ◌∙◌, [], ◌∷◌, ◌++◌, ◌&&◌, List, Option, Some, None, Bool, true, drop, filter, length, map, max, min, ℕ, suc, option_map, refl, ap, ap₂, sym}
 use Rattle.std.specs.Prelude.{is_none, is_some}
 use Rattle.std.specs.List.{list_all}
 use Rattle.std.proofs.lemmas.Bool.{and_from}
 use Rattle.std.proofs.lemmas.List.{map-append}
 use Rattle.cyp_goal.proofs.DressedNormal.{dressing_law}
 use Rattle.cyp_goal.proofs.Maps.{filter-map, map_both}
-use Rattle.cyp_goal.specs.Dressed.{dressed, dressed_renaming, resized, resized_goal}
-use Rattle.cyp_goal.specs.Normal.{Renaming, normal}
+use Rattle.cyp_goal.specs.Dressed.{dressed_renaming, resized, resized_goal}
+use Rattle.cyp_goal.specs.Normal.{normal}
 use Rattle.cyp_heap.specs.Chunks.{insts}
 use Rattle.cyp_heap.specs.Formed.{IsFormed, inst_fits, insts_fit, is_card_var}
 use Rattle.cyp_heap.specs.PredsValue.{PredsValue}
@@ -23,7 +23,7 @@ use Rattle.cyp_text.specs.Bodies.{in_kinds, is_block, is_cell, is_instance}
 use Rattle.cyp_text.specs.LimitFaults.{root_of}
 use Rattle.cyp_text.specs.NameFaults.{name_faults}
 use Rattle.cyp_text.specs.ReadTerms.{Scope, read_chunk, read_chunks, read_lits, use_var}
-use Rattle.cyp_text.specs.Specifications.{goal_scope, read_goal, read_preds, read_tree, universal_scope, with_cards}
+use Rattle.cyp_text.specs.Specifications.{goal_scope, read_goal, read_preds, read_tree, with_cards}
 use Rattle.cyp_text.specs.Uses.{param_uses}
 use Rattle.cyp_text.specs.declared.tree.BodyTree.{BodyTree}
 use Rattle.cyp_text.specs.declared.tree.ChunkTree.{ChunkTree}

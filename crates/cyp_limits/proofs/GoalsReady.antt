@@ -1,11 +1,10 @@
 -- The goal of a text without faults of names, whose predicates are formed: when it can be read, and what is known where it passes a limit.
-use Rattle.std.proofs.Common.{[], ◌≡◌, ◌∙◌, ◌∷◌, ◌++◌, ◌&&◌, ◌⊎◌, List, Bool, true, false, filter, flat_map, length, map, suc, ℕ, ◌+◌, ◌<◌, ◌≤◌, refl, ap, ap₂, sym, subst, inl, inr, arith}
+use Rattle.std.proofs.Common.{[], ◌≡◌, ◌∙◌, ◌∷◌, ◌++◌, ◌&&◌, ◌⊎◌, List, Bool, true, false, filter, flat_map, length, map, ℕ, ◌<◌, ◌≤◌, refl, ap, inl, inr, arith}
 use Rattle.std.specs.Prelude.{nat_le}
-use Rattle.std.specs.List.{All}
 use Rattle.std.proofs.lemmas.Bool.{lt-leb}
 use Rattle.std.proofs.lemmas.List.{length-map}
 use Rattle.cyp_goal.specs.Dressed.{resized, resized_goal}
-use Rattle.cyp_heap.specs.Chunks.{chunk_vars, chunks_vars}
+use Rattle.cyp_heap.specs.Chunks.{chunk_vars}
 use Rattle.cyp_heap.specs.Goals.{goal_vars}
 use Rattle.cyp_heap.specs.Limits.{chunk_elements, goal_elements, is_goal_within}
 use Rattle.cyp_heap.specs.declared.chunk.Chunk.{Chunk}
@@ -15,10 +14,9 @@ use Rattle.cyp_limits.proofs.ClauseTests.{chunks_count}
 use Rattle.cyp_limits.proofs.GoalsDressed.{clamp, goal_mended}
 use Rattle.cyp_reading.proofs.TextsReadable.{body_readable, cards_length, count_all}
 use Rattle.cyp_reading.specs.Mended.{mended_text}
-use Rattle.cyp_reading.specs.Readable.{BodyReadable, ChunkReadable}
 use Rattle.cyp_reading.specs.ReadableTexts.{GoalReadable}
-use Rattle.cyp_reading.specs.Small.{BodySmall, ChunkSmall, TextSmall}
-use Rattle.cyp_term.proofs.Lists.{Among, Among-left, Among-right, flat_in}
+use Rattle.cyp_reading.specs.Small.{TextSmall}
+use Rattle.cyp_term.proofs.Lists.{Among-left, Among-right}
 use Rattle.cyp_term.specs.Terms.{is_set_var, lit_elements, lits_vars, sort_eq, term_eq, var_eq, without_repeats}
 use Rattle.cyp_term.specs.declared.term.Sort.TheVariants.{Int, Set}
 use Rattle.cyp_term.specs.declared.term.Term.{Term}
@@ -26,14 +24,11 @@ use Rattle.cyp_term.specs.declared.term.Var.{Var}
 use Rattle.cyp_text.proofs.FormedScope.{goal_plain}
 use Rattle.cyp_text.proofs.FormedSorts.{name_sort}
 use Rattle.cyp_text.proofs.PrintedGoals.{ok}
-use Rattle.cyp_text.specs.Bodies.{body_lits, in_kinds, kept_body, kept_lit, kept_parts}
+use Rattle.cyp_text.specs.Bodies.{kept_body}
 use Rattle.cyp_text.specs.NameFaults.{name_faults}
-use Rattle.cyp_text.specs.ReadTerms.{Scope, read_chunk, read_chunks, sort_in}
-use Rattle.cyp_text.specs.Specifications.{count_sort, goal_scope, read_goal, with_cards}
-use Rattle.cyp_text.specs.Uses.{Use, chunk_uses, param_uses}
-use Rattle.cyp_text.specs.declared.tree.BodyTree.{BodyTree}
-use Rattle.cyp_text.specs.declared.tree.ChunkTree.{ChunkTree}
-use Rattle.cyp_text.specs.declared.tree.PredTree.{PredTree}
+use Rattle.cyp_text.specs.ReadTerms.{read_chunks}
+use Rattle.cyp_text.specs.Specifications.{count_sort, goal_scope, read_goal}
+use Rattle.cyp_text.specs.Uses.{param_uses}
 use Rattle.cyp_text.specs.declared.tree.TextTree.{TextTree}
 
 -- ---- other sizes of blocks

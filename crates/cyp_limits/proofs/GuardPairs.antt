@@ -1,5 +1,5 @@
 -- Two guards as the solver sees them.
-use Rattle.std.proofs.Common.{◌≡◌, [], ◌∷◌, ◌++◌, List, Option, Some, None, Bool, true, length, ◌≤◌, ◌+◌, refl, subst, sym, arith}
+use Rattle.std.proofs.Common.{◌≡◌, [], ◌∷◌, ◌++◌, List, Option, Some, None, true, length, ◌≤◌, refl, subst, sym, arith}
 use Rattle.std.specs.Prelude.{IsTrue, is_some, ◌↔◌}
 use Rattle.std.proofs.lemmas.Bool.{false≢true}
 use Rattle.std.proofs.lemmas.Bool.Decides.{same_from_decides}
@@ -13,7 +13,7 @@ use Rattle.cyp_term.proofs.Entailment.{satisfiable_law}
 use Rattle.cyp_term.specs.Entailment.{satisfiable}
 use Rattle.cyp_term.specs.Integers.{is_int_lit}
 use Rattle.cyp_term.specs.Meaning.{Satisfiable}
-use Rattle.cyp_term.specs.Terms.{base_vars, lit_vars, lits_vars, term_vars, var_eq, without_repeats}
+use Rattle.cyp_term.specs.Terms.{base_vars, lit_vars, lits_vars, term_vars, var_eq}
 use Rattle.cyp_term.specs.declared.lit.Lit.{Lit}
 use Rattle.cyp_term.specs.declared.lit.Lit.TheVariants.{Eq, Le, Lt, Member, Ne, NotMember, NotSame, NotSub, Same, Sub}
 use Rattle.cyp_term.specs.declared.term.Term.{Term}

@@ -1,5 +1,5 @@
 -- What the loop over the guards of a predicate knows at each step.
-use Rattle.std.proofs.Common.{[], ◌≡◌, ◌∙◌, ◌∷◌, ◌++◌, List, Option, None, drop, get_or, length, ◌+◌, ◌<◌, ◌≤◌, ℕ, ap, subst, sym, arith}
+use Rattle.std.proofs.Common.{[], ◌≡◌, ◌∙◌, ◌∷◌, ◌++◌, List, Option, drop, get_or, length, ◌+◌, ◌<◌, ◌≤◌, ℕ, ap, subst, sym, arith}
 use Rattle.std.specs.Prelude.{IsTrue}
 use Rattle.std.specs.List.{All}
 use Rattle.std.proofs.lemmas.List.{drop_all}

@@ -1,8 +1,6 @@
 -- Chunks by their kinds have what the chunks have, where blocks and cells have nothing.
-use Rattle.std.proofs.Common.{◌≡◌, ◌∙◌, [], ◌∷◌, ◌++◌, List, Bool, true, false, cond, filter, flat_map, length, ◌+◌, ℕ, refl, ap, ap₂, append-nil, sym, arith}
+use Rattle.std.proofs.Common.{◌≡◌, ◌∙◌, [], ◌∷◌, ◌++◌, List, Bool, true, false, cond, filter, flat_map, refl, ap, ap₂, append-nil, sym}
 use Rattle.std.proofs.lemmas.Grind.{flat_map-append}
-use Rattle.std.proofs.lemmas.List.{length-append}
-use Rattle.cyp_term.proofs.Lists.{Among, Among-left, Among-right, filter_in}
 use Rattle.cyp_text.specs.Bodies.{in_kinds, is_block, is_cell, is_instance}
 use Rattle.cyp_text.specs.declared.tree.ChunkTree.{ChunkTree}
 use Rattle.cyp_text.specs.declared.tree.ChunkTree.TheVariants.{BlockOf, InstanceOf, NamedCell, TermCell}

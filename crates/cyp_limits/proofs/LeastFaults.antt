@@ -1,5 +1,5 @@
 -- The least fault of two lists is the earlier one of their least faults.
-use Rattle.std.proofs.Common.{◌≡◌, ◌∙◌, [], ◌∷◌, ◌++◌, List, Option, Some, None, Bool, true, false, cond, ◌||◌, ◌&&◌, ◌==◌, ◌+◌, ◌*◌, ◌<◌, ◌≤◌, ℕ, drop, flat_map, get_or, length, refl, ap, sym, subst, inl, inr, arith}
+use Rattle.std.proofs.Common.{◌≡◌, ◌∙◌, [], ◌∷◌, ◌++◌, List, Option, Some, None, Bool, true, false, cond, ◌||◌, ◌&&◌, ◌==◌, ◌+◌, ◌*◌, ◌<◌, ◌≤◌, ℕ, drop, flat_map, length, refl, ap, sym, subst, inl, inr, arith}
 use Rattle.std.specs.Prelude.{nat_lt}
 use Rattle.std.proofs.lemmas.Bool.{eqb-true, lt-ltb, ltb-true}
 use Rattle.std.proofs.lemmas.List.{drop_all}
@@ -8,10 +8,9 @@ use Rattle.cyp_lex.specs.FaultNumber.{fault_number}
 use Rattle.cyp_lex.specs.declared.fault.Fault.{Fault}
 use Rattle.cyp_lex.specs.declared.fault.FaultKind.{FaultKind}
 use Rattle.cyp_lex.specs.declared.fault.FaultKind.TheVariants.{BadByte, DuplicateName, Expected, GuardsOverlap, MissingProcedure, NotDifference, NumberRange, ReservedName, TooLarge, TooLong, UnboundVariable, UnknownPredicate, Unproductive, WrongArity, WrongSort}
-use Rattle.cyp_names.proofs.LesserFaults.{least_fault-append, lesser_of-assoc, lesser_of-none}
+use Rattle.cyp_names.proofs.LesserFaults.{least_fault-append, lesser_of-none}
 use Rattle.cyp_names.specs.LeastFaults.{lesser_of}
 use Rattle.cyp_term.proofs.Lists.{Among}
-use Rattle.cyp_term.proofs.Turns.{drop_here}
 use Rattle.cyp_text.specs.Reading.{is_before, least_fault, lesser}
 
 -- ---- the order as one of numbers

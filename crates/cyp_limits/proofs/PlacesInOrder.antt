@@ -1,10 +1,9 @@
 -- A tree that lexemes spell is in order where they are.
-use Rattle.std.proofs.Common.{◌≡◌, ◌⊎◌, [], ◌∷◌, ◌++◌, List, Bool, true, flat_map, map, ℕ, suc, ◌≤◌, ◌<◌, refl, ap, subst, sym, inl, inr, arith}
+use Rattle.std.proofs.Common.{◌≡◌, ◌⊎◌, [], ◌∷◌, ◌++◌, List, true, flat_map, map, ℕ, suc, ◌≤◌, ◌<◌, refl, ap, subst, sym, inl, inr, arith}
 use Rattle.std.specs.Prelude.{nat_lt}
-use Rattle.std.specs.List.{list_all}
 use Rattle.std.proofs.lemmas.Bool.{lt-ltb}
 use Rattle.cyp_grammar.specs.Lexemes.{Lexeme, Said, Symbol, lexeme_of}
-use Rattle.cyp_grammar.specs.Spelling.{Any, At, IsEnd, Mark, Match, Then, all_spelling, list_spelling, more_spelling, sign}
+use Rattle.cyp_grammar.specs.Spelling.{Any, At, IsEnd, Mark, Match, Then, all_spelling, more_spelling, sign}
 use Rattle.cyp_lex.specs.Lexing.{LieInOrder}
 use Rattle.cyp_lex.specs.declared.token.Token.{Token}
 use Rattle.cyp_lex.specs.declared.token.Sign.TheVariants.{RightBrace, TwoStars}

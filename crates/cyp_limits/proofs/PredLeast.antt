@@ -1,10 +1,10 @@
 -- The least fault of a predicate, of its guards, and of a whole text.
-use Rattle.std.proofs.Common.{◌≡◌, ◌∙◌, [], ◌∷◌, ◌++◌, List, Option, Some, None, Bool, true, false, cond, drop, get_or, length, ◌+◌, ◌<◌, ◌≤◌, ℕ, append_assoc, append-nil, refl, ap, sym, arith}
+use Rattle.std.proofs.Common.{◌≡◌, ◌∙◌, [], ◌∷◌, ◌++◌, List, Option, Some, None, Bool, true, false, cond, drop, get_or, length, ◌+◌, ◌<◌, ◌≤◌, ℕ, append_assoc, append-nil, ap, sym, arith}
 use Rattle.cyp_lex.specs.declared.fault.Fault.{Fault}
 use Rattle.cyp_lex.specs.declared.fault.FaultKind.TheVariants.{GuardsOverlap, TooLarge}
 use Rattle.cyp_limits.proofs.FaultPlaces.{bodies_behind, guards_part, inner_later, owners_part, preds_before, sizes_part}
 use Rattle.cyp_limits.proofs.LeastFaults.{last_stands_first, least_first}
-use Rattle.cyp_names.proofs.LesserFaults.{least_fault-append, lesser_of-assoc, lesser_of-none}
+use Rattle.cyp_names.proofs.LesserFaults.{least_fault-append, lesser_of-assoc}
 use Rattle.cyp_limits.specs.InOrder.{IsInOrder, is_name_first}
 use Rattle.cyp_names.specs.LeastFaults.{lesser_of}
 use Rattle.cyp_limits.specs.LimitParts.{preds_part, root_part}

@@ -1,12 +1,12 @@
 -- What the code of a predicate's limits knows at each step.
-use Rattle.std.proofs.Common.{[], ◌≡◌, ◌∙◌, ◌∷◌, List, Bool, true, false, flat_map, get_or, length, ℕ, suc, ◌+◌, ◌<◌, ◌≤◌, ap, subst, sym, inl, inr, refl}
+use Rattle.std.proofs.Common.{[], ◌≡◌, ◌∙◌, List, Bool, true, false, flat_map, get_or, length, ℕ, ◌<◌, ◌≤◌, ap, subst, sym, inl, inr, refl}
 use Rattle.std.specs.List.{All, list_all}
 use Rattle.cyp_heap.specs.PredsFormed.{is_clause_within}
 use Rattle.cyp_limits.proofs.PredTests.{all_at, among_at, each_right, each_within, first_fails, first_right, many_others, many_params, others_decide, others_right, params_once}
 use Rattle.cyp_reading.specs.Small.{ClauseSmall, PredSmall}
 use Rattle.cyp_term.proofs.Lists.{Among}
 use Rattle.cyp_text.specs.LimitFaults.{is_pred_within}
-use Rattle.cyp_text.specs.NameFaults.{clause_faults, clauses, param_names, pred_faults, repeats}
+use Rattle.cyp_text.specs.NameFaults.{clause_faults, param_names, pred_faults, repeats}
 use Rattle.cyp_text.specs.Specifications.{read_clause, read_pred}
 use Rattle.cyp_text.specs.declared.tree.ClauseTree.{ClauseTree}
 use Rattle.cyp_text.specs.declared.tree.ParamTree.{ParamTree}

@@ -1,5 +1,5 @@
 -- The limits of a predicate as its tree tells them, and its clauses one by one.
-use Rattle.std.proofs.Common.{◌≡◌, ◌∙◌, [], ◌∷◌, ◌++◌, ◌&&◌, List, Bool, true, drop, false, flat_map, get_or, length, map, nat_le, ℕ, suc, zero, ◌+◌, ◌<◌, ◌≤◌, refl, ap, subst, sym, inl, inr, arith}
+use Rattle.std.proofs.Common.{◌≡◌, ◌∙◌, [], ◌&&◌, List, Bool, true, drop, false, flat_map, get_or, length, nat_le, ℕ, suc, ◌+◌, ◌<◌, ◌≤◌, refl, ap, subst, sym, inl, arith}
 use Rattle.std.specs.List.{All, list_all}
 use Rattle.std.proofs.lemmas.Bool.{and_parts, le-leb, lt-leb}
 use Rattle.std.proofs.lemmas.List.{length-map}

@@ -1,6 +1,5 @@
 -- The predicates of a text without faults of names whose predicates have no faults of limits, whatever its procedure.
-use Rattle.std.proofs.Common.{[], ◌≡◌, ◌∙◌, ◌++◌, List, append-nil, ap, flat_map, map, refl, arith}
-use Rattle.std.specs.List.{All}
+use Rattle.std.proofs.Common.{[], ◌≡◌, ◌∙◌, ◌++◌, List, append-nil, flat_map, map}
 use Rattle.cyp_heap.specs.PredsFormed.{IsFormedPreds}
 use Rattle.cyp_lex.specs.declared.fault.Fault.{Fault}
 use Rattle.cyp_limits.specs.LimitParts.{preds_part}

@@ -1,6 +1,6 @@
 -- What the code of a goal's limits knows at each step.
-use Rattle.std.proofs.Common.{[], ◌≡◌, ◌∙◌, ◌&&◌, List, Option, Some, None, Bool, true, false, cond, length, map, ℕ, ◌<◌, ◌≤◌, refl, ap, sym, subst, inl, inr, arith}
-use Rattle.std.specs.Prelude.{IsTrue, is_some}
+use Rattle.std.proofs.Common.{[], ◌≡◌, ◌∙◌, ◌&&◌, List, Option, Some, None, Bool, true, false, cond, length, map, ◌<◌, ◌≤◌, ap, sym, subst, inl, inr, arith}
+use Rattle.std.specs.Prelude.{is_some}
 use Rattle.std.specs.List.{All}
 use Rattle.std.proofs.lemmas.Bool.{leb-true}
 use Rattle.std.proofs.lemmas.List.{length-map}
@@ -14,7 +14,7 @@ use Rattle.cyp_heap.specs.declared.goal.Link.{Link}
 use Rattle.cyp_heap.specs.declared.pred.Pred.{Pred}
 use Rattle.cyp_lex.specs.declared.fault.FaultKind.TheVariants.{TooLarge}
 use Rattle.cyp_limits.proofs.GoalsDressed.{insts_mended, normal_mended}
-use Rattle.cyp_limits.proofs.GoalsReady.{goal_ready, many_in_pre, many_names, within_mended}
+use Rattle.cyp_limits.proofs.GoalsReady.{goal_ready, many_names, within_mended}
 use Rattle.cyp_limits.proofs.PredsAlone.{bare, bare_right, bare_within, no_body, preds_formed}
 use Rattle.cyp_reading.proofs.TextsReadable.{preds_readable}
 use Rattle.cyp_limits.specs.LimitParts.{preds_part, root_part}
@@ -28,7 +28,6 @@ use Rattle.cyp_text.specs.ReadTerms.{Scope}
 use Rattle.cyp_text.specs.Reading.{least_fault}
 use Rattle.cyp_text.specs.Specifications.{count_sort, goal_scope, read_goal, read_pred, read_preds, read_tree}
 use Rattle.cyp_text.specs.declared.tree.TextTree.{TextTree}
-use Rattle.cyp_term.specs.declared.term.Sort.{Sort}
 use Rattle.cyp_term.specs.declared.term.Sort.TheVariants.{Int, Set}
 
 nothing_small : BodySmall no_body

@@ -8,6 +8,7 @@ ghost use Rattle.cyp_term.specs.Terms.{is_set_var, lit_vars, lits_vars, set_vars
 ghost use Rattle.cyp_term.specs.declared.term.Sort.TheVariants.{Int};
 ghost use Rattle.cyp_term.specs.declared.term.Var.{Var as TheVar};
 
+use crate::clause_limits::{MOST_ELEMENTS, MOST_INTS, MOST_SETS};
 use crate::elements::{add_args_elements, add_lits_elements, are_few};
 use cyp_heap::{Arg, Chunk, Goal};
 use cyp_term::{Lit, NoMemory, SetTerm, Sort, Term, Var};
@@ -19,12 +20,6 @@ const MOST_CHUNKS: usize = 16;
 const MOST_LITS: usize = 40;
 
 const MOST_PROGRAM: usize = 12;
-
-const MOST_INTS: usize = 64;
-
-const MOST_SETS: usize = 32;
-
-const MOST_ELEMENTS: usize = 32;
 
 // ---- variables, with repeats
 

@@ -1,4 +1,4 @@
-use Rattle.std.proofs.Common.{◌≡◌, ◌≤◌, [], length, drop}
+use Rattle.std.proofs.Common.{◌≡◌, ◌≤◌, length, drop}
 use Rattle.cyp_term.specs.Terms.{term_eq, with_all_new, without_repeats}
 use Rattle.cyp_limits.proofs.elements.are_few.Given as goal
 

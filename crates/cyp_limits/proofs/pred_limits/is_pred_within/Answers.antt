@@ -1,4 +1,3 @@
-use Rattle.std.proofs.Common.{arith}
 use Rattle.cyp_limits.proofs.PredSteps.{first_fails_at, first_right_at, first_small, many_others_at, many_params_at, once_at, others_decide_at, others_right_at, others_small_at}
 use Rattle.cyp_limits.proofs.pred_limits.is_pred_within.Goals as goal
 

@@ -1,4 +1,4 @@
-use Rattle.std.proofs.Common.{◌∙◌, arith, sym}
+use Rattle.std.proofs.Common.{arith}
 use Rattle.cyp_limits.proofs.GoalsReady.{many_in_pre}
 use Rattle.cyp_limits.proofs.RootSteps.{judged_at, many_ints_at, many_sets_at, readable_at}
 use Rattle.cyp_limits.proofs.root_limits.written_goal.Goals as goal
