@@ -1,5 +1,4 @@
-ghost use Rattle.std.specs.Prelude.{[], IfOk, IsTrue, None, codes, ◌∷◌, ◌≡◌};
-ghost use Rattle.cyp_heap.specs.Chunks.{in_order};
+ghost use Rattle.std.specs.Prelude.{[], IfOk, None, codes, ◌∷◌, ◌≡◌};
 ghost use Rattle.cyp_term.specs.TermValue.{IsTerm};
 ghost use Rattle.cyp_term.specs.declared.term.Sort.TheVariants.{Int, Set};
 ghost use Rattle.cyp_writing.specs.Examples.{cell, cell_goal, constant, instance, list_clause, list_goal, list_pred, list_preds, sum};
