@@ -26,7 +26,7 @@ use Rattle.cyp_top.specs.Lines.{output, words_refused}
 use Rattle.cyp_top.specs.RunOutput.{IsRunOutput, IsRunOutputOf, block_line, cell_line, first_state, store_lines}
 use Rattle.cyp_top.specs.Synthesis.{report_output}
 use Rattle.cyp_top.specs.WholeOutput.{IsWholeOutput}
-use Rattle.cyp_top.specs.declared.status.Status.TheVariants.{NoProgram, Program, Refused, Spent}
+use Rattle.cyp_top.specs.declared.status.Status.TheVariants.{NoProgram, Program, Refused, Spent, Usage}
 use Rattle.cyp_words.specs.Words.{Search}
 
 -- ---- words

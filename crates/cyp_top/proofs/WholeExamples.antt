@@ -11,7 +11,7 @@ use Rattle.cyp_term.specs.Integers.{all_cases, both, eliminate, eliminate_all, f
 use Rattle.cyp_term.specs.Regions.{all_set_vars, all_terms, regions_fit}
 use Rattle.cyp_top.specs.Lines.{output}
 use Rattle.cyp_top.specs.WholeOutput.{IsWholeOutput}
-use Rattle.cyp_top.specs.declared.status.Status.TheVariants.{NoProgram, Program, Refused}
+use Rattle.cyp_top.specs.declared.status.Status.TheVariants.{NoProgram, Program, Refused, Spent}
 
 abbrev swap : List ℕ
 swap = codes "void swap(loc x, loc y) { x :-> a ** y :-> b } { x :-> b ** y :-> a }"

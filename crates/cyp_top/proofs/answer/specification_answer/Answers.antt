@@ -1,4 +1,4 @@
-use Rattle.std.proofs.Common.{refl, sym, ◌≡◌, ◌∙◌}
+use Rattle.std.proofs.Common.{List, ap, refl, sym, ℕ, ◌≡◌, ◌∙◌}
 use Rattle.std.proofs.lemmas.Result.{IfOk-weaker}
 use Rattle.cyp_search.specs.PlainReports.{plain_report, plain_verdict}
 use Rattle.cyp_top.specs.Given.{plain_answer}
@@ -15,6 +15,8 @@ verdict_answer-requires c = is_found c.in-Some.root (plain_verdict c.in_ok-repor
 
 pub returns : goal.returns
 returns c =
-    rw c.name.ensures at IfOk-weaker c.verdict_answer.result (λ a. plain_answer a ≡ verdict_output c.name.result.now (plain_verdict c.in_ok-report.report.verdict)) (λ a. plain_answer a ≡ specification_output c.args.spec.now)
-    (λ a said. is_output c.args.spec.now c.in-Some.root (plain_report c.in_ok-report.report) (plain_answer a) (sym c.in-Some.is ∙ c.in_ok-root.ensures) c.in_ok-report.ensures said)
+    let verdict = plain_verdict c.in_ok-report.report.verdict in
+    IfOk-weaker c.verdict_answer.result (λ a. plain_answer a ≡ verdict_output c.name.result.now verdict) (λ a. plain_answer a ≡ specification_output c.args.spec.now)
+    (λ a said. is_output c.args.spec.now c.in-Some.root (plain_report c.in_ok-report.report) (plain_answer a) (sym c.in-Some.is ∙ c.in_ok-root.ensures) c.in_ok-report.ensures
+    (said ∙ ap (λ (n : List ℕ). verdict_output n verdict) c.name.ensures))
     c.verdict_answer.ensures
