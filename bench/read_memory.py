@@ -1,0 +1,73 @@
+#!/usr/bin/env python3
+"""Measures the memory that reading a text takes: `python3 bench/read_memory.py PROGRAM`.
+
+Each text has 65,536 bytes, the most that are read, and is the worst of its kind: as many tokens, terms, literals, chunks or names
+as fit. Printed is the greatest memory of the run beyond that of a run over an empty text, for each byte of text.
+"""
+import fcntl
+import os
+import subprocess
+import sys
+import time
+
+SIZE = 65536
+
+
+def filled(before, part, after, between=b""):
+    """The text with as many parts as fit, and blanks behind it."""
+    count = (SIZE - len(before) - len(after) + len(between)) // (len(part) + len(between))
+    text = before + between.join([part] * count) + after
+    return text + b" " * (SIZE - len(text))
+
+
+def texts():
+    names = b", ".join(b"int a%x" % number for number in range(6500))
+    chunks = b" ** ".join(b"a :-> 0" for _ in range(5900))
+    return {
+        "one token a byte, no grammar": b"(" * SIZE,
+        "elements of a set": filled(b"void f() { {", b"0", b"} =i {} ; emp } { emp }", b","),
+        "parts of a union": filled(b"void f() { ", b"a", b" =i {} ; emp } { emp }", b"++"),
+        "literals": filled(b"void f() { ", b"0<0", b" ; emp } { emp }", b"&&"),
+        "negations": filled(b"void f() { ", b"not(", b""),
+        "chunks": (b"void f() { " + chunks + b" } { emp }").ljust(SIZE),
+        "arguments": filled(b"void f() { p(", b"0", b") } { emp }", b","),
+        "names": (b"void f(" + names + b") { emp } { emp }")[:SIZE].ljust(SIZE),
+        "clauses": filled(b"predicate p() {", b"|0<0=>{emp}", b"} void f() { emp } { emp }"),
+        "predicates": filled(b"", b"predicate p(){|0<0=>{emp}}", b"void f(){emp}{emp}"),
+    }
+
+
+def run(program, text):
+    """The greatest memory of a run in bytes, and the line that it writes: read from the process while its answer waits in a full pipe."""
+    read, write = os.pipe()
+    fcntl.fcntl(write, fcntl.F_SETPIPE_SZ, 4096)
+    os.write(write, b" " * 4096)
+    child = subprocess.Popen([program, "synth"], stdin=subprocess.PIPE, stdout=write)
+    child.stdin.write(text)
+    child.stdin.close()
+    os.close(write)
+    while True:
+        with open(f"/proc/{child.pid}/status", encoding="ascii") as status:
+            fields = dict(line.split(":", 1) for line in status)
+        if fields["State"].split()[0] == "S":
+            break
+        time.sleep(0.01)
+    used = int(fields["VmHWM"].split()[0]) * 1024
+    line = b""
+    while more := os.read(read, 65536):
+        line += more
+    os.close(read)
+    child.wait()
+    return used, line.decode().strip()
+
+
+def main():
+    program = sys.argv[1]
+    empty, _ = run(program, b"")
+    for kind, text in texts().items():
+        assert len(text) == SIZE, kind
+        used, line = run(program, text)
+        print(f"{kind}: {(used - empty) / SIZE:.0f} bytes a byte; {line}")
+
+
+main()
