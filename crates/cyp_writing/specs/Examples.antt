@@ -12,9 +12,11 @@ use Rattle.cyp_term.specs.declared.term.Sort.TheVariants.{Card, Int, Set}
 use Rattle.cyp_term.specs.declared.term.Term.{Term}
 use Rattle.cyp_term.specs.declared.term.Var.{Var}
 
+-- the integer variable of this number
 abbrev pub int : ℕ → Var
 int n = record { sort = Int; number = n }
 
+-- the set variable of this number
 abbrev pub set : ℕ → Var
 set n = record { sort = Set; number = n }
 
@@ -22,9 +24,11 @@ set n = record { sort = Set; number = n }
 abbrev pub sum : ℕ → ℕ → Term
 sum n c = record { base = Some (int n); offset = pos c }
 
+-- a number as a term
 abbrev pub constant : ℤ → Term
 constant z = record { base = None; offset = z }
 
+-- a cell with its content
 abbrev pub cell : Term → Term → Chunk
 cell at content = Cell (record { at = at; content = content })
 
@@ -47,9 +51,11 @@ list_clause = record {
   sets = 2;
 }
 
+-- the predicate of such lists
 abbrev pub list_pred : Pred
 list_pred = record { name = codes "list"; params = Int ∷ Set ∷ []; clauses = list_clause ∷ [] }
 
+-- it alone
 abbrev pub list_preds : Preds
 list_preds = record { list = list_pred ∷ [] }
 
