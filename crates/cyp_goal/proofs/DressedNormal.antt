@@ -57,12 +57,12 @@ module _ (preds : PredsValue) (size : ℕ → ℕ) where
 
   -- ---- chunks
 
-  vars-other : (c : Chunk) → chunk_vars (other c) ≡ chunk_vars c
+  pub vars-other : (c : Chunk) → chunk_vars (other c) ≡ chunk_vars c
   vars-other (Inst i) = refl
   vars-other (Block k) = refl
   vars-other (Cell k) = refl
 
-  elements-other : (c : Chunk) → chunk_elements (other c) ≡ chunk_elements c
+  pub elements-other : (c : Chunk) → chunk_elements (other c) ≡ chunk_elements c
   elements-other (Inst i) = refl
   elements-other (Block k) = refl
   elements-other (Cell k) = refl
@@ -87,7 +87,7 @@ module _ (preds : PredsValue) (size : ℕ → ℕ) where
   apply-other by (Block k) = refl
   apply-other by (Cell k) = refl
 
-  flat-other : {A : Type 0} (f : Chunk → List A) → ((c : Chunk) → f (other c) ≡ f c) → (cs : List Chunk) → flat_map f (map other cs) ≡ flat_map f cs
+  pub flat-other : {A : Type 0} (f : Chunk → List A) → ((c : Chunk) → f (other c) ≡ f c) → (cs : List Chunk) → flat_map f (map other cs) ≡ flat_map f cs
   flat-other f e [] = refl
   flat-other f e (c ∷ cs) = λ i. e c i ++ flat-other f e cs i
 

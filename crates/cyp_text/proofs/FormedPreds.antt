@@ -39,7 +39,7 @@ all_mapped f test [] h = refl
 all_mapped f test (x ∷ xs) h = and_from _ _ (h x (inl refl)) (all_mapped f test xs (λ y m. h y (inr m)))
 
 -- no predicate stands behind the last that is allowed
-short_by : (n : ℕ) (qs : List PredTree) → extra_pred_fault (slice_get qs n) ≡ [] → length qs ≤ n
+pub short_by : (n : ℕ) (qs : List PredTree) → extra_pred_fault (slice_get qs n) ≡ [] → length qs ≤ n
 short_by n [] e = omega arith
 short_by zero (q ∷ qs) e = absurd cc
 short_by (suc n) (q ∷ qs) e = omega (arith, short_by n qs e)
@@ -67,10 +67,14 @@ module _ (t : TextTree) (right : name_faults t ≡ []) (within : limit_faults t 
   abbrev pred_part : List Fault
   pred_part = flat_map (pred_limit_faults qs) qs
 
-  first_limits : (pred_part ≡ []) × (extra_pred_fault (slice_get qs 16) ≡ [])
-  first_limits = none_both pred_part (extra_pred_fault (slice_get qs 16)) (none_both (pred_part ++ extra_pred_fault (slice_get qs 16)) (size_faults t.pre)
-      (none_both (pred_part ++ extra_pred_fault (slice_get qs 16) ++ size_faults t.pre) (size_faults t.post)
-      (none_both (pred_part ++ extra_pred_fault (slice_get qs 16) ++ size_faults t.pre ++ size_faults t.post) root_part within).0).0).0
+  -- the parts of the faults of limits are none
+  pub parts_none : (pred_part ≡ []) × (extra_pred_fault (slice_get qs 16) ≡ []) × (size_faults t.pre ≡ []) × (size_faults t.post ≡ []) × (root_part ≡ [])
+  parts_none =
+      let a = none_both (pred_part ++ extra_pred_fault (slice_get qs 16) ++ size_faults t.pre ++ size_faults t.post) root_part within in
+      let b = none_both (pred_part ++ extra_pred_fault (slice_get qs 16) ++ size_faults t.pre) (size_faults t.post) a.0 in
+      let c = none_both (pred_part ++ extra_pred_fault (slice_get qs 16)) (size_faults t.pre) b.0 in
+      let d = none_both pred_part (extra_pred_fault (slice_get qs 16)) c.0 in
+      (d.0, d.1, c.1, b.1, a.1)
 
   module _ (q : PredTree) (m : Among q qs) where
     abbrev overlaps_part : List Fault
@@ -86,7 +90,7 @@ module _ (t : TextTree) (right : name_faults t ≡ []) (within : limit_faults t 
     limits_part = cond (is_pred_within (read_pred qs q)) [] (fault_at TooLarge q.name.place)
 
     pred_none : pred_limit_faults qs q ≡ []
-    pred_none = none_each (pred_limit_faults qs) qs first_limits.0 q m
+    pred_none = none_each (pred_limit_faults qs) qs parts_none.0 q m
 
     three_none : (overlaps_part ++ owners_part ++ sizes_part ≡ []) × (limits_part ≡ [])
     three_none = none_both (overlaps_part ++ owners_part ++ sizes_part) limits_part pred_none
@@ -138,7 +142,7 @@ module _ (t : TextTree) (right : name_faults t ≡ []) (within : limit_faults t 
 
   pub formed_preds : IsFormedPreds (read_preds qs)
   formed_preds = record {
-    few = le-leb _ 16 (omega (arith, length-map qs (read_pred qs), short_by 16 qs first_limits.1));
+    few = le-leb _ 16 (omega (arith, length-map qs (read_pred qs), short_by 16 qs parts_none.1));
     has_clauses = each_pred _ (λ q m. le-leb 1 (suc (length (map (read_clause qs q.params) q.others))) (omega arith));
     few_clauses = each_pred _ (λ q m. (both_within q m).1);
     few_params = each_pred _ (λ q m. (both_within q m).0);

@@ -63,7 +63,7 @@ module _ (qs : List PredTree) (q : PredTree) (right : pred_faults qs q ≡ []) (
   abbrev limit_part : List Fault
   limit_part = cond (is_pred_within (read_pred qs q)) [] (fault_at TooLarge q.name.place)
 
-  four : (overlap_part ≡ []) × (owner_part ≡ []) × (size_part ≡ []) × (limit_part ≡ [])
+  pub four : (overlap_part ≡ []) × (owner_part ≡ []) × (size_part ≡ []) × (limit_part ≡ [])
   four =
       let a = none_both (overlap_part ++ owner_part ++ size_part) limit_part limits in
       let b = none_both (overlap_part ++ owner_part) size_part a.0 in

@@ -1,6 +1,6 @@
 use crate::lit_tree::LitTree;
 use cyp_grammar::Ident;
-use cyp_term::List;
+use cyp_term::{List, Shared};
 
 /// An integer term. A number that begins it stands behind its place, and so does the number of a
 /// minus.
@@ -62,12 +62,13 @@ pub enum PureTree {
 
 /// An argument: a term, which may be a name alone, or a union that is no name alone. A union that
 /// begins with braces has their place, their terms and its other parts; one that begins with a
-/// name has its second part and those behind it.
+/// name has its second part, which lies apart so that each argument takes less room, and those
+/// behind it.
 #[derive(Debug, Drop)]
 pub enum ArgTree {
     TermArg(IntTree),
     BracesArg(u32, List<IntTree>, List<PartTree>),
-    UnionArg(Ident, PartTree, List<PartTree>),
+    UnionArg(Ident, Shared<PartTree>, List<PartTree>),
 }
 
 /// A chunk: a cell at a name or at a term in parentheses with its content, a block with the place
