@@ -1,4 +1,5 @@
 pub mod Beginnings
+pub mod KeptNames
 pub mod Lexemes
 pub mod Readers
 pub mod SignTests

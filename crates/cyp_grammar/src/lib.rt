@@ -2,7 +2,9 @@
 #![tactic(auto)]
 
 mod ident;
+mod name;
 mod want;
 
 pub use ident::Ident;
+pub use name::Name;
 pub use want::Want;

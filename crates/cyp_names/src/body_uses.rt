@@ -67,7 +67,7 @@ fn add_arg<'a>(
             add_union(uses, order, &Union::OfBraces(*place, terms, parts))
         }
         ArgTree::UnionArg(name, second, parts) => {
-            add_union(uses, order, &Union::OfName(name, second, parts))
+            add_union(uses, order, &Union::OfName(name, second.get(), parts))
         }
     }
 }

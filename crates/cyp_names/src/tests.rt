@@ -1,7 +1,9 @@
 use crate::name_faults::name_fault;
+use crate::scope::Scope;
+use crate::scopes::{clause_scope, goal_scope, universal_scope};
 use cyp_lex::{Fault, FaultKind, tokens};
 use cyp_term::{Fail, NoMemory};
-use cyp_text::parse;
+use cyp_text::{TextTree, parse};
 use std::alloc::Global;
 use std::test::Fail as Failed;
 
@@ -21,6 +23,48 @@ fn judged(alloc: Global, text: &[u8]) -> Result<Option<Fault>, Fail<Fault>> {
     let tokens = tokens(alloc, text)?;
     let tree = parse(alloc, text, tokens.as_slice())?;
     Ok(name_fault(alloc, &tree)?)
+}
+
+/// Adds the names of the scope to the text, each with a blank behind it.
+fn add(text: &mut Vec<u8>, scope: &Scope<'_>) -> Result<(), NoMemory> {
+    for named in scope.uses() {
+        for byte in named.name().text.as_slice() {
+            text.push(*byte)?;
+        }
+        text.push(b' ')?;
+    }
+    Ok(())
+}
+
+/// The names of each first clause, of the universal scope and of the goal.
+fn scopes_of(alloc: Global, tree: &TextTree) -> Result<Vec<u8>, NoMemory> {
+    let mut text = Vec::new(alloc);
+    for pred in tree.preds.as_slice() {
+        let preds = tree.preds.as_slice();
+        let scope = clause_scope(alloc, preds, pred.params.as_slice(), &pred.first)?;
+        add(&mut text, &scope)?;
+    }
+    add(&mut text, &universal_scope(alloc, tree)?)?;
+    add(&mut text, &goal_scope(alloc, tree)?)?;
+    Ok(text)
+}
+
+fn scopes_in(alloc: Global, text: &[u8]) -> Result<Vec<u8>, Fail<Fault>> {
+    if text.len() > 65536 {
+        return Ok(Vec::new(alloc));
+    }
+    let tokens = tokens(alloc, text)?;
+    let tree = parse(alloc, text, tokens.as_slice())?;
+    Ok(scopes_of(alloc, &tree)?)
+}
+
+/// The names of the scopes of a text of the grammar, or none.
+fn names_of(alloc: Global, text: &[u8]) -> Result<Vec<u8>, NoMemory> {
+    match scopes_in(alloc, text) {
+        Ok(names) => Ok(names),
+        Err(Fail::Named(_)) => Ok(Vec::new(alloc)),
+        Err(Fail::NoMemory) => Err(NoMemory),
+    }
 }
 
 fn at(kind: FaultKind, place: u32) -> Option<Fault> {
@@ -145,6 +189,25 @@ fn a_text_without_faults_of_names_has_none(rt: HostRuntime) -> Result<(), Failed
         None,
     )] {
         assert_eq!(rt; fault_of(rt.alloc(), text)?, expected);
+    }
+    Ok(())
+}
+
+#[test]
+fn scopes_have_the_names_in_the_order_in_which_chunks_are_kept(
+    rt: HostRuntime,
+) -> Result<(), Failed> {
+    for (text, expected) in [
+        (
+            b"predicate p(loc x) { | x == 0 => { a == 1 ; x :-> b ** p(c) } } void f(loc y) { emp } { emp }".as_slice(),
+            b"x a c b y y ".as_slice(),
+        ),
+        (
+            b"predicate p(loc x) { | x == 0 => { emp } } void f(loc y) { y :-> b ** [z, 2] ** p(a) } { e == b ; y :-> c ** p(d) }",
+            b"x y a z b y a z b e d c ",
+        ),
+    ] {
+        assert_eq!(rt; names_of(rt.alloc(), text)?.as_slice(), expected);
     }
     Ok(())
 }

@@ -35,12 +35,13 @@ use Rattle.cyp_text.specs.declared.tree.ClauseTree.{ClauseTree}
 use Rattle.cyp_text.specs.declared.tree.PredTree.{PredTree}
 use Rattle.cyp_text.specs.declared.tree.TextTree.{TextTree}
 use Rattle.cyp_text.proofs.FormedClauses.{name_sort as clause_sort}
+use Rattle.cyp_text.proofs.FormedPreds.{parts_none, short_by}
 use Rattle.cyp_text.proofs.FormedInstances.{none_both, none_each, test_true}
 use Rattle.cyp_text.proofs.FormedSorts.{name_sort as goal_sort}
 use Rattle.cyp_text.proofs.PrintedClauses.{in_body, in_guard, ok as clause_ok}
 use Rattle.cyp_text.proofs.PrintedGoals.{in_post, in_pre, ok as goal_ok}
 use Rattle.cyp_text.proofs.PrintedNames.{Nameable}
-use Rattle.cyp_text.proofs.PrintedPreds.{clause_right, clause_within, once}
+use Rattle.cyp_text.proofs.PrintedPreds.{clause_right, clause_within, four, once}
 
 -- ---- few names
 
@@ -94,15 +95,6 @@ chunks_few t e =
     let read : List Chunk = read_chunks t.preds (goal_scope t) t.pre in
     omega (arith, pre_few (read_goal t) e, cards_length 0 read, length-map (in_kinds t.pre.chunks) (read_chunk t.preds (goal_scope t)), kinds_length t.pre.chunks)
 
--- the sizes of a predicate
-pred_sizes : (qs : List PredTree) (q : PredTree) → pred_limit_faults qs q ≡ [] → flat_map (λ (c : ClauseTree). size_faults c.body) (clauses q) ≡ []
-pred_sizes qs q e =
-    let overlap_part : List Fault = overlap_faults (guard_of qs q.params) [] (clauses q) in
-    let owner_part : List Fault = flat_map unproductive_fault (clauses q) in
-    let size_part : List Fault = flat_map (λ (c : ClauseTree). size_faults c.body) (clauses q) in
-    let limit_part : List Fault = cond (is_pred_within (read_pred qs q)) [] (fault_at TooLarge q.name.place) in
-    (none_both (overlap_part ++ owner_part) size_part (none_both (overlap_part ++ owner_part ++ size_part) limit_part e).0).1
-
 -- ---- bodies
 
 -- each chunk is of a kind
@@ -128,12 +120,6 @@ module _ (qs : List PredTree) (few : length qs < 256) (sc : Scope) (b : BodyTree
 
 -- ---- predicates
 
--- no predicate stands behind the last that is allowed
-preds_short : (n : ℕ) (qs : List PredTree) → extra_pred_fault (slice_get qs n) ≡ [] → length qs ≤ n
-preds_short n [] e = omega arith
-preds_short zero (q ∷ qs) e = absurd cc
-preds_short (suc n) (q ∷ qs) e = omega (arith, preds_short n qs e)
-
 module _ (qs : List PredTree) (right : flat_map (pred_faults qs) qs ≡ []) (within : flat_map (pred_limit_faults qs) qs ≡ []) (few : length qs < 256) where
   module _ (q : PredTree) (m : Among q qs) where
     q_right : pred_faults qs q ≡ []
@@ -143,7 +129,7 @@ module _ (qs : List PredTree) (right : flat_map (pred_faults qs) qs ≡ []) (wit
     q_within = none_each (pred_limit_faults qs) qs within q m
 
     sizes_right : (c : ClauseTree) → Among c (clauses q) → size_faults c.body ≡ []
-    sizes_right = none_each (λ (c : ClauseTree). size_faults c.body) (clauses q) (pred_sizes qs q q_within)
+    sizes_right = none_each (λ (c : ClauseTree). size_faults c.body) (clauses q) (four qs q q_right q_within).2
 
     clause_readable : (c : ClauseTree) → Among c (clauses q) → ClauseSmall c → ClauseReadable qs q.params c
     clause_readable c n s =
@@ -179,46 +165,29 @@ module _ (t : TextTree) (right : name_faults t ≡ []) (within : limit_faults t 
   abbrev qs : List PredTree
   qs = t.preds
 
-  abbrev root_part : List Fault
-  root_part = cond (is_root_within (read_tree t)) [] (fault_at TooLarge t.name.place)
-
-  abbrev pred_part : List Fault
-  pred_part = flat_map (pred_limit_faults qs) qs
-
-  abbrev extra_part : List Fault
-  extra_part = extra_pred_fault (slice_get qs 16)
-
-  all_within : (pred_part ≡ []) × (extra_part ≡ []) × (size_faults t.pre ≡ []) × (size_faults t.post ≡ []) × (root_part ≡ [])
-  all_within =
-      let a = none_both (pred_part ++ extra_part ++ size_faults t.pre ++ size_faults t.post) root_part within in
-      let b = none_both (pred_part ++ extra_part ++ size_faults t.pre) (size_faults t.post) a.0 in
-      let c = none_both (pred_part ++ extra_part) (size_faults t.pre) b.0 in
-      let d = none_both pred_part extra_part c.0 in
-      (d.0, d.1, c.1, b.1, a.1)
-
   preds_right : flat_map (pred_faults qs) qs ≡ []
   preds_right =
       (none_both (repeats [] (map (λ (q : PredTree). q.name) qs)) (flat_map (pred_faults qs) qs)
       (none_both (repeats [] (map (λ (q : PredTree). q.name) qs) ++ flat_map (pred_faults qs) qs) (proc_faults t) right).0).1
 
   few_preds : length qs < 256
-  few_preds = omega (arith, preds_short 16 qs all_within.1)
+  few_preds = omega (arith, short_by 16 qs (parts_none t right within).1)
 
   pub preds_readable : All (PredReadable qs) qs
-  preds_readable = each_readable qs preds_right all_within.0 few_preds small.preds
+  preds_readable = each_readable qs preds_right (parts_none t right within).0 few_preds small.preds
 
   goal_within : is_goal_within (read_goal t) ≡ true
   goal_within =
-      (and_parts (is_goal_within (read_goal t)) (is_some (normal (root_of (read_tree t)))) (test_true (is_root_within (read_tree t)) _ [] all_within.4)).0
+      (and_parts (is_goal_within (read_goal t)) (is_some (normal (root_of (read_tree t)))) (test_true (is_root_within (read_tree t)) _ [] (parts_none t right within).4)).0
 
   pub goal_readable : GoalReadable t
   goal_readable = bodies_readable t right goal_within few_preds small.pre small.post
 
   pub pre_sizes : size_faults t.pre ≡ []
-  pre_sizes = all_within.2
+  pre_sizes = (parts_none t right within).2
 
   pub post_sizes : size_faults t.post ≡ []
-  post_sizes = all_within.3
+  post_sizes = (parts_none t right within).3
 
   pub root_right : is_root_within (read_tree t) ≡ true
-  root_right = test_true (is_root_within (read_tree t)) _ [] all_within.4
+  root_right = test_true (is_root_within (read_tree t)) _ [] (parts_none t right within).4
