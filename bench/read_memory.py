@@ -2,7 +2,8 @@
 """Measures the memory that reading a text takes: `python3 bench/read_memory.py PROGRAM`.
 
 Each text has 65,536 bytes, the most that are read, and is the worst of its kind: as many tokens, terms, literals, chunks or names
-as fit. Printed is the greatest memory of the run beyond that of a run over an empty text, for each byte of text.
+as fit. All but the last are refused, for a token, a name or a sort, before a goal is made of them. Printed is the greatest memory
+of the run beyond that of a run over an empty text, for each byte of text.
 """
 import fcntl
 import os
@@ -22,18 +23,31 @@ def filled(before, part, after, between=b""):
 
 def texts():
     names = b", ".join(b"int a%x" % number for number in range(6500))
-    chunks = b" ** ".join(b"a :-> 0" for _ in range(5900))
+    goal = (b"void f(int n, int n) { ", b" } { emp }")
+    instance = (goal[0] + b"p(", b")" + goal[1])
+    elements = (goal[0] + b"{", b"} =i {} ; emp" + goal[1])
+    pure = (goal[0], b" ; emp" + goal[1])
+    clauses = (b"predicate p() {", b"} void f(int n, int n) { emp } { emp }")
     return {
         "one token a byte, no grammar": b"(" * SIZE,
-        "elements of a set": filled(b"void f() { {", b"0", b"} =i {} ; emp } { emp }", b","),
-        "parts of a union": filled(b"void f() { ", b"a", b" =i {} ; emp } { emp }", b"++"),
-        "literals": filled(b"void f() { ", b"0<0", b" ; emp } { emp }", b"&&"),
-        "negations": filled(b"void f() { ", b"not(", b""),
-        "chunks": (b"void f() { " + chunks + b" } { emp }").ljust(SIZE),
-        "arguments": filled(b"void f() { p(", b"0", b") } { emp }", b","),
         "names": (b"void f(" + names + b") { emp } { emp }")[:SIZE].ljust(SIZE),
-        "clauses": filled(b"predicate p() {", b"|0<0=>{emp}", b"} void f() { emp } { emp }"),
+        "negations": filled(pure[0], b"not(", b""),
+        "chunks": filled(goal[0], b"a:->0", goal[1], b"**"),
+        "instances": filled(goal[0], b"p(a)", goal[1], b"**"),
+        "instances with a set": filled(goal[0], b"p({a})", goal[1], b"**"),
+        "arguments": filled(instance[0], b"0", instance[1], b","),
+        "arguments that are names": filled(instance[0], b"a", instance[1], b","),
+        "arguments that are sets": filled(instance[0], b"{a}", instance[1], b","),
+        "arguments that are unions": filled(instance[0], b"a++a", instance[1], b","),
+        "elements of a set": filled(elements[0], b"0", elements[1], b","),
+        "elements that are names": filled(elements[0], b"a", elements[1], b","),
+        "parts of a union": filled(goal[0], b"a", b" =i {} ; emp" + goal[1], b"++"),
+        "literals": filled(pure[0], b"0<0", pure[1], b"&&"),
+        "literals on names": filled(pure[0], b"a<a", pure[1], b"&&"),
         "predicates": filled(b"", b"predicate p(){|0<0=>{emp}}", b"void f(){emp}{emp}"),
+        "clauses": filled(clauses[0], b"|0<0=>{emp}", clauses[1]),
+        "clauses with an instance": filled(clauses[0], b"|a<a=>{p(a)}", clauses[1]),
+        "literals, and the goal that they are read as": filled(b"void f() { ", b"0<0", b" ; emp } { emp }", b"&&"),
     }
 
 

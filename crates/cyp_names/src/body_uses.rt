@@ -253,7 +253,7 @@ fn add_pure<'a>(
     match pure {
         PureTree::NoItems => Ok(()),
         PureTree::Items(first, others) => {
-            add_item(uses, order, first)?;
+            add_item(uses, order, first.get())?;
             add_items(uses, order, others.as_slice())
         }
     }

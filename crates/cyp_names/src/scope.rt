@@ -7,7 +7,8 @@ ghost use Rattle.cyp_text.specs.Specifications.{count_sort};
 ghost use Rattle.cyp_text.specs.Uses.{same_name};
 
 use crate::uses::NamedUse;
-use cyp_term::{NoMemory, Sort, Text, Var};
+use cyp_grammar::Name;
+use cyp_term::{NoMemory, Sort, Var};
 use std::alloc::Global;
 use std::marker::Model;
 
@@ -26,10 +27,10 @@ impl<'a> Model for Scope<'a> {
 }
 
 /// Whether both are the same name.
-fn is_name(a: &Text, b: &Text) -> bool
+fn is_name(a: &Name, b: &Name) -> bool
     ensures { result ≡ bytes_eq a.now b.now }
 {
-    *a == *b
+    a.as_slice() == b.as_slice()
 }
 
 impl<'a> Scope<'a> {
@@ -93,7 +94,7 @@ impl<'a> Scope<'a> {
     }
 
     /// The sort of the name; an integer, where there is no such name.
-    pub fn sort_of(&self, name: &Text) -> Sort
+    pub fn sort_of(&self, name: &Name) -> Sort
         ensures { result ≡ sort_in self.now name.now }
     {
         for other in self.uses.as_slice() {
@@ -105,7 +106,7 @@ impl<'a> Scope<'a> {
     }
 
     /// How many names of the sort stand before this one.
-    fn rank(&self, sort: Sort, name: &Text) -> usize
+    fn rank(&self, sort: Sort, name: &Name) -> usize
         ensures within { result ≤ length self.now }
         ensures rank { result ≡ rank_of sort self.now name.now }
     {
@@ -122,7 +123,7 @@ impl<'a> Scope<'a> {
     }
 
     /// The variable of the name. Each sort is numbered from 0.
-    pub fn var_named(&self, name: &Text) -> Var
+    pub fn var_named(&self, name: &Name) -> Var
         requires { length self.now ≤ 255 }
         ensures { result ≡ var_named self.now name.now }
     {

@@ -118,7 +118,7 @@ fn read_pred(alloc: Global, preds: &[PredTree], tree: &PredTree) -> Result<Pred,
     requires { PredReadable preds.now tree.now }
     ensures { IfOk result (λ q. q ≡ read_pred preds.now tree.now) }
 {
-    let name = tree.name.text.copy(alloc)?;
+    let name = tree.name.text.text(alloc)?;
     let params = read_sorts(alloc, tree.params.as_slice())?;
     let clauses = read_clauses(alloc, preds, tree)?;
     Ok(Pred {

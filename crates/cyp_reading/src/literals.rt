@@ -113,7 +113,7 @@ pub fn read_lits(alloc: Global, scope: &Scope<'_>, tree: &PureTree) -> Result<Li
 {
     let mut lits = Vec::new(alloc);
     if let PureTree::Items(first, others) = tree {
-        add_item(alloc, &mut lits, scope, first)?;
+        add_item(alloc, &mut lits, scope, first.get())?;
         add_items(alloc, &mut lits, scope, others.as_slice())?;
     }
     Ok(List::from_vec(lits))

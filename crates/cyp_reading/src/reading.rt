@@ -31,7 +31,7 @@ pub fn spec_of(alloc: Global, tree: &TextTree) -> Result<Spec, NoMemory>
 {
     let preds = read_preds(alloc, tree)?;
     let shared = Shared::new(alloc, preds)?;
-    let name = tree.name.text.copy(alloc)?;
+    let name = tree.name.text.text(alloc)?;
     let goal = read_goal(alloc, tree)?;
     Ok(Spec::new(shared, name, goal))
 }

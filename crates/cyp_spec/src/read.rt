@@ -5,12 +5,13 @@ ghost use Rattle.cyp_limits.specs.InOrder.{IsInOrder};
 ghost use Rattle.cyp_reading.specs.Small.{TextSmall};
 ghost use Rattle.cyp_spec.specs.ReadSpecs.{IsReadSpec, IsSaid};
 ghost use Rattle.cyp_text.specs.Reading.{judge};
+ghost use Rattle.cyp_text.specs.Stopping.{IsParsed};
 
 use cyp_lex::{Fault, FaultKind, Token, tokens};
 use cyp_limits::limit_fault;
 use cyp_names::name_fault;
 use cyp_reading::spec_of;
-use cyp_term::Fail;
+use cyp_term::{Fail, List};
 use cyp_text::{Spec, TextTree, parse};
 use std::alloc::Global;
 
@@ -33,14 +34,23 @@ fn judged(alloc: Global, tree: &TextTree) -> Result<Spec, Fail<Fault>>
     Ok(spec_of(alloc, tree)?)
 }
 
-/// What the tokens of a text say.
-fn said(alloc: Global, text: &[u8], tokens: &[Token]) -> Result<Spec, Fail<Fault>>
+/// The tree that the tokens of a text spell. Their memory is free before the tree is judged.
+fn tree_of(alloc: Global, text: &[u8], tokens: List<Token>) -> Result<TextTree, Fail<Fault>>
     requires size { length text.now ≤ 65536 }
-    requires in_order { LieInOrder 0 tokens.now (length text.now) }
-    requires exact { tokens_of text.now ≡ Ok tokens.now }
-    ensures { IsSaid (length text.now) (map (lexeme_of text.now) tokens.now) result }
+    requires in_order { LieInOrder 0 tokens (length text.now) }
+    ensures { IsParsed text.now tokens result }
 {
-    let tree = parse(alloc, text, tokens)?;
+    parse(alloc, text, tokens.as_slice())
+}
+
+/// What the tokens of a text say.
+fn said(alloc: Global, text: &[u8], tokens: List<Token>) -> Result<Spec, Fail<Fault>>
+    requires size { length text.now ≤ 65536 }
+    requires in_order { LieInOrder 0 tokens (length text.now) }
+    requires exact { tokens_of text.now ≡ Ok tokens }
+    ensures { IsSaid (length text.now) (map (lexeme_of text.now) tokens) result }
+{
+    let tree = tree_of(alloc, text, tokens)?;
     judged(alloc, &tree)
 }
 
@@ -57,5 +67,5 @@ pub fn read_spec(alloc: Global, text: &[u8]) -> Result<Spec, Fail<Fault>>
         }));
     }
     let tokens = tokens(alloc, text)?;
-    said(alloc, text, tokens.as_slice())
+    said(alloc, text, tokens)
 }

@@ -10,7 +10,7 @@ use crate::parser::Parser;
 use crate::tree::{BodyTree, Conjunction, ItemTree, PureTree};
 use cyp_grammar::Want;
 use cyp_lex::{Sign, TokenKind, Word};
-use cyp_term::Fail;
+use cyp_term::{Fail, Shared};
 use std::alloc::Global;
 
 impl Item for (Conjunction, ItemTree) {
@@ -71,7 +71,7 @@ impl<'a> Parser<'a> {
         let first = self.item(alloc)?;
         let others = self.items(alloc)?;
         self.sign(Sign::Semicolon)?;
-        Ok(PureTree::Items(first, others))
+        Ok(PureTree::Items(Shared::new(alloc, first)?, others))
     }
 
     /// Whether a body that is next begins with an item: where a name is next, the token behind it

@@ -40,6 +40,15 @@ pub(crate) trait Item: Drop {
         ensures shorter { IsShorter result from.old from.new };
 }
 
+/// The list of the items, without room for more.
+fn fitted<T: Drop>(items: Vec<T>) -> List<T>
+    ensures { result ≡ items.items }
+{
+    let mut items = items;
+    items.shrink_to_fit();
+    List::from_vec(items)
+}
+
 impl<'a> Parser<'a> {
     /// A part behind this symbol.
     fn behind<T: Part>(&mut self, alloc: Global, separator: Sign) -> Result<T, Fail<Want>>
@@ -64,7 +73,7 @@ impl<'a> Parser<'a> {
             let part = self.behind(alloc, separator)?;
             found.push(alloc, part)?;
         }
-        Ok(found)
+        Ok(fitted(found.into_vec()))
     }
 
     /// One part, and the others each behind the symbol.
@@ -120,6 +129,6 @@ impl<'a> Parser<'a> {
             let item = T::read(alloc, self)?;
             found.push(item)?;
         }
-        Ok(List::from_vec(found))
+        Ok(fitted(found))
     }
 }

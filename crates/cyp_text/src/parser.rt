@@ -4,9 +4,9 @@ ghost use Rattle.cyp_grammar.specs.Lexemes.{lexeme_of, said_by};
 ghost use Rattle.cyp_grammar.specs.Readers.{heads, ident_token, is_name, is_number, is_sign, is_word, number_token, placed_number, sign_place, sign_token, word_place, word_token};
 ghost use Rattle.cyp_text.specs.Parsing.{Gives, IsOfKind, IsPassed, LiesWithin, tail};
 
-use cyp_grammar::{Ident, Want};
+use cyp_grammar::{Ident, Name, Want};
 use cyp_lex::{Sign, Token, TokenKind, Word};
-use cyp_term::{Fail, List};
+use cyp_term::Fail;
 use std::alloc::Global;
 use std::marker::Model;
 
@@ -171,9 +171,8 @@ impl<'a> Parser<'a> {
             _ => return Err(Fail::Named(Want::AName)),
         };
         let bytes = &self.text[token.start as usize..token.end as usize];
-        let text = List::from_vec(bytes.to_vec(alloc)?);
         Ok(Ident {
-            text,
+            text: Name::new(alloc, bytes)?,
             place: self.pass(),
         })
     }

@@ -67,12 +67,20 @@ fn seen(alloc: Global, text: &[u8]) -> Result<Option<(usize, usize, usize, bool)
     }
 }
 
+/// How often a literal is negated.
+fn negations_of(item: &ItemTree) -> Option<usize> {
+    match item {
+        ItemTree::LitItem(literal) => Some(literal.nots().len()),
+        ItemTree::TrueItem => None,
+    }
+}
+
 /// How often the first literal of the precondition is negated.
 fn negations(alloc: Global, text: &[u8]) -> Result<Option<usize>, NoMemory> {
     match read(alloc, text) {
         Ok(tree) => Ok(match &tree.pre.pure {
-            PureTree::Items(ItemTree::LitItem(literal), _) => Some(literal.nots().len()),
-            _ => None,
+            PureTree::Items(first, _) => negations_of(first.get()),
+            PureTree::NoItems => None,
         }),
         Err(Fail::Named(_fault)) => Ok(None),
         Err(Fail::NoMemory) => Err(NoMemory),

@@ -53,11 +53,12 @@ pub enum Conjunction {
     Ampersands,
 }
 
-/// The pure part of a body, if it has one: an item, and others behind their conjunctions.
+/// The pure part of a body, if it has one: an item, which lies apart so that a body takes less room,
+/// and others behind their conjunctions.
 #[derive(Debug, Drop)]
 pub enum PureTree {
     NoItems,
-    Items(ItemTree, List<(Conjunction, ItemTree)>),
+    Items(Shared<ItemTree>, List<(Conjunction, ItemTree)>),
 }
 
 /// An argument: a term, which may be a name alone, or a union that is no name alone. A union that

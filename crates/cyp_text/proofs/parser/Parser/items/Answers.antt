@@ -20,4 +20,4 @@ returns-in_err-item g c =
 pub returns : goal.returns
 returns g c =
     loop_ends g.T.Item.starts g.T.Item.reader c.items.found.items c.items.self (many g.T.Item.starts g.T.Item.reader c.args.self.now)
-    (sym c.is_next.ensures ∙ c.items-test.false) c.items.invariant ∙ rw c.from_vec.ensures refl
+    (sym c.is_next.ensures ∙ c.items-test.false) c.items.invariant ∙ rw c.fitted.ensures refl

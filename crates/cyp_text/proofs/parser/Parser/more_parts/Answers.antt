@@ -1,4 +1,4 @@
-use Rattle.std.proofs.Common.{rules, sym, ◌∙◌, ◌≡◌, Err}
+use Rattle.std.proofs.Common.{refl, rules, sym, ◌∙◌, ◌≡◌, Err}
 use Rattle.cyp_text.specs.ListReaders.{behind, more_parts_in}
 use Rattle.cyp_text.proofs.PartsRead.{parts_end, parts_go_on, parts_stop, stops_with}
 use Rattle.cyp_text.proofs.parser.Parser.more_parts.Goals as goal
@@ -21,3 +21,4 @@ pub returns : goal.returns
 returns g c = λ n above.
     parts_end c.args.separator g.T.Part.reader c.parts.found c.parts.self (more_parts_in n c.args.found c.args.separator g.T.Part.reader c.args.self.now)
     (sym c.is_at.ensures ∙ c.parts-test.false) (c.parts.invariant n above)
+    ∙ rw (c.fitted.ensures, c.into_vec.ensures) refl
