@@ -8,3 +8,6 @@ mod want;
 pub use ident::Ident;
 pub use name::Name;
 pub use want::Want;
+
+#[cfg(test)]
+mod tests;
