@@ -1,5 +1,5 @@
 -- The goal of a text without faults of names, whose predicates are formed: when it can be read, and what is known where it passes a limit.
-use Rattle.std.proofs.Common.{[], ◌≡◌, ◌∙◌, ◌∷◌, ◌++◌, ◌&&◌, ◌⊎◌, List, Bool, true, false, filter, flat_map, length, map, ℕ, ◌<◌, ◌≤◌, refl, ap, inl, inr, arith}
+use Rattle.std.proofs.Common.{[], ◌≡◌, ◌∙◌, ◌++◌, ◌&&◌, ◌⊎◌, List, Bool, true, false, filter, flat_map, length, ℕ, ◌<◌, ◌≤◌, refl, ap, inl, inr, arith}
 use Rattle.std.specs.Prelude.{nat_le}
 use Rattle.std.proofs.lemmas.Bool.{lt-leb}
 use Rattle.std.proofs.lemmas.List.{length-map}
@@ -9,8 +9,6 @@ use Rattle.cyp_heap.specs.Chunks.{chunk_vars}
 use Rattle.cyp_heap.specs.Goals.{goal_vars}
 use Rattle.cyp_heap.specs.PredsValue.{PredsValue}
 use Rattle.cyp_heap.specs.Limits.{chunk_elements, goal_elements, is_goal_within}
-use Rattle.cyp_heap.specs.declared.chunk.Chunk.{Chunk}
-use Rattle.cyp_heap.specs.declared.chunk.Chunk.TheVariants.{Block, Cell, Inst}
 use Rattle.cyp_heap.specs.declared.goal.Goal.{Goal}
 use Rattle.cyp_limits.proofs.ClauseTests.{chunks_count}
 use Rattle.cyp_limits.proofs.GoalsDressed.{clamp, goal_mended}

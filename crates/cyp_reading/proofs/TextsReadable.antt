@@ -1,6 +1,6 @@
 -- A text without faults whose numbers are small can be read.
-use Rattle.std.proofs.Common.{Bool, List, [], ap, arith, cond, false, filter, flat_map, inl, inr, length, length-append, map, refl, suc, true, zero, ℕ, ◌+◌, ◌++◌, ◌<◌, ◌≤◌, ◌∙◌, ◌∷◌, ◌≡◌, ◌≢◌}
-use Rattle.std.specs.Prelude.{is_some, nat_le, slice_get, ◌&&◌}
+use Rattle.std.proofs.Common.{Bool, List, [], ap, arith, cond, false, filter, flat_map, inl, inr, length, length-append, map, refl, suc, true, ℕ, ◌+◌, ◌++◌, ◌<◌, ◌≤◌, ◌∙◌, ◌∷◌, ◌≡◌, ◌≢◌}
+use Rattle.std.specs.Prelude.{is_some, nat_le, ◌&&◌}
 use Rattle.std.specs.List.{All}
 use Rattle.std.proofs.lemmas.Bool.{and_parts, leb-true}
 use Rattle.std.proofs.lemmas.List.{length-map}
@@ -10,8 +10,6 @@ use Rattle.cyp_heap.specs.Limits.{goal_elements, is_goal_within}
 use Rattle.cyp_heap.specs.declared.chunk.Chunk.{Chunk}
 use Rattle.cyp_heap.specs.declared.chunk.Chunk.TheVariants.{Block, Cell, Inst}
 use Rattle.cyp_heap.specs.declared.goal.Goal.{Goal}
-use Rattle.cyp_lex.specs.declared.fault.Fault.{Fault}
-use Rattle.cyp_lex.specs.declared.fault.FaultKind.TheVariants.{TooLarge}
 use Rattle.cyp_reading.specs.Readable.{BodyReadable, ChunkReadable}
 use Rattle.cyp_reading.specs.ReadableTexts.{ClauseReadable, GoalReadable, PredReadable}
 use Rattle.cyp_reading.specs.Small.{BodySmall, ChunkSmall, ClauseSmall, PredSmall, TextSmall}
@@ -23,10 +21,10 @@ use Rattle.cyp_term.specs.declared.term.Sort.TheVariants.{Card, Int, Set}
 use Rattle.cyp_term.specs.declared.term.Var.{Var}
 use Rattle.cyp_term.proofs.Lists.{Among, Among-left, Among-right, filter_in}
 use Rattle.cyp_text.specs.Bodies.{body_lits, in_kinds, is_block, is_cell, is_instance, kept_body, kept_lit, kept_parts}
-use Rattle.cyp_text.specs.LimitFaults.{extra_pred_fault, guard_of, is_pred_within, is_root_within, limit_faults, overlap_faults, pred_limit_faults, root_of, size_faults, unproductive_fault}
-use Rattle.cyp_text.specs.NameFaults.{clauses, fault_at, name_faults, pred_faults, proc_faults, repeats}
+use Rattle.cyp_text.specs.LimitFaults.{is_root_within, limit_faults, pred_limit_faults, root_of, size_faults}
+use Rattle.cyp_text.specs.NameFaults.{clauses, name_faults, pred_faults, proc_faults, repeats}
 use Rattle.cyp_text.specs.ReadTerms.{Scope, read_chunk, read_chunks}
-use Rattle.cyp_text.specs.Specifications.{clause_scope, count_sort, goal_scope, read_goal, read_pred, read_tree, with_cards}
+use Rattle.cyp_text.specs.Specifications.{clause_scope, count_sort, goal_scope, read_goal, read_tree, with_cards}
 use Rattle.cyp_text.specs.Uses.{Use, chunk_uses}
 use Rattle.cyp_text.specs.declared.tree.BodyTree.{BodyTree}
 use Rattle.cyp_text.specs.declared.tree.ChunkTree.{ChunkTree}
