@@ -50,7 +50,7 @@ within_resized p g = λ i.
 
 module _ (t : TextTree) where
   pub within_mended : is_goal_within (read_goal (mended_text t)) ≡ is_goal_within (read_goal t)
-  within_mended = ap is_goal_within (goal_mended t) ∙ within_resized (record { list = read_preds t.preds }) (read_goal t)
+  within_mended = ap is_goal_within (goal_mended t) ∙ within_resized (read_preds t.preds) (read_goal t)
 
   -- too many chunks in the precondition
   pub many_in_pre : 16 < length t.pre.chunks → is_goal_within (read_goal t) ≡ false
