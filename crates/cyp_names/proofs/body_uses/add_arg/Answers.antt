@@ -1,6 +1,8 @@
+use Rattle.std.proofs.Common.{◌++◌, ◌∙◌, ◌∷◌, ap}
 use Rattle.std.proofs.lemmas.Result.{on_ok_weaker}
 use Rattle.cyp_names.proofs.EachKind.{braces_added, term_added, union_added}
 use Rattle.cyp_names.specs.Orders.{parts_in}
+use Rattle.cyp_text.specs.declared.tree.PartTree.TheVariants.{PartName}
 use Rattle.cyp_names.proofs.body_uses.add_arg.Goals as goal
 
 pub returns-in-TermArg : goal.returns-in-TermArg
@@ -21,5 +23,6 @@ pub returns-in-UnionArg : goal.returns-in-UnionArg
 returns-in-UnionArg c =
     on_ok_weaker c.add_union-in-UnionArg.result
     (λ is. union_added (parts_in c.args.order) c.args.sort c.args.arg.now c.args.uses.now.items c.add_union-in-UnionArg.new.uses.items
-    c.in-UnionArg.name c.in-UnionArg.second c.in-UnionArg.parts c.in-UnionArg.is is)
+    c.in-UnionArg.name c.in-UnionArg.second c.in-UnionArg.parts c.in-UnionArg.is
+    (is ∙ ap (λ p. c.args.uses.now.items ++ parts_in c.args.order (PartName c.in-UnionArg.name ∷ p ∷ c.in-UnionArg.parts)) c.get.ensures))
     c.add_union-in-UnionArg.ensures
