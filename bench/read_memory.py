@@ -2,13 +2,17 @@
 """Measures the memory that reading a text takes: `python3 bench/read_memory.py PROGRAM`.
 
 Each text has 65,536 bytes, the most that are read, and is the worst of its kind: as many tokens, terms, literals, chunks or names
-as fit. All but the last are refused, for a token, a name or a sort, before a goal is made of them. Printed is the greatest memory
-of the run beyond that of a run over an empty text, for each byte of text.
+as fit. All but the last are refused, for a token, a name or a sort, before a goal is made of them. Printed is, for each byte of text, the
+greatest resident memory of the run beyond that of a run over an empty text, which Linux counts to some four bytes a byte, and, where
+valgrind is installed, the most bytes that the run has asked for at once, the room in lists that isn't used yet included.
 """
 import fcntl
 import os
+import re
+import shutil
 import subprocess
 import sys
+import tempfile
 import time
 
 SIZE = 65536
@@ -75,13 +79,25 @@ def run(program, text):
     return used, line.decode().strip()
 
 
+def asked(program, text):
+    """The most bytes of the heap that a run has asked for at once."""
+    with tempfile.NamedTemporaryFile() as found:
+        tool = ["valgrind", "--tool=massif", f"--massif-out-file={found.name}"]
+        subprocess.run([*tool, program, "synth"], input=text, capture_output=True, check=False)
+        snapshots = open(found.name, encoding="ascii").read()
+    return max(int(count) for count in re.findall(r"mem_heap_B=(\d+)", snapshots))
+
+
 def main():
     program = sys.argv[1]
     empty, _ = run(program, b"")
     for kind, text in texts().items():
         assert len(text) == SIZE, kind
         used, line = run(program, text)
-        print(f"{kind}: {(used - empty) / SIZE:.0f} bytes a byte; {line}")
+        told = f"{(used - empty) / SIZE:.0f} bytes a byte resident"
+        if shutil.which("valgrind"):
+            told += f", {asked(program, text) / SIZE:.0f} asked for"
+        print(f"{kind}: {told}; {line}")
 
 
 main()
