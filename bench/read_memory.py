@@ -3,13 +3,17 @@
 
 Each text has 65,536 bytes, the most that are read, and is the worst of its kind: as many tokens, terms, literals, chunks or names
 as fit. All but the last are refused, for a token, a name or a sort, before a goal is made of them. Printed is, for each byte of text, the
-greatest resident memory of the run beyond that of a run over an empty text, which Linux counts to some four bytes a byte, and, where
-valgrind is installed, the most bytes that the run has asked for at once, the room in lists that isn't used yet included.
+greatest resident memory of the run beyond that of a run over an empty text, which Linux counts to some four bytes a byte, where
+valgrind is installed, the most bytes that the run has asked for at once, the room in lists that isn't used yet included, and the
+time of the processor.
 """
 import fcntl
+import itertools
 import os
 import re
+import resource
 import shutil
+import string
 import subprocess
 import sys
 import tempfile
@@ -23,6 +27,19 @@ def filled(before, part, after, between=b""):
     count = (SIZE - len(before) - len(after) + len(between)) // (len(part) + len(between))
     text = before + between.join([part] * count) + after
     return text + b" " * (SIZE - len(text))
+
+
+def different(before, after):
+    """The text with as many different names as fit."""
+    letters = string.ascii_uppercase
+    names = ("".join(name) for length in (1, 2, 3) for name in itertools.product(letters, repeat=length))
+    found, size = [], len(before) + len(after)
+    for name in names:
+        size += len(name) + 1
+        if size > SIZE:
+            break
+        found.append(name.encode())
+    return (before + b",".join(found) + after).ljust(SIZE)
 
 
 def texts():
@@ -45,6 +62,7 @@ def texts():
         "arguments that are unions": filled(instance[0], b"a++a", instance[1], b","),
         "elements of a set": filled(elements[0], b"0", elements[1], b","),
         "elements that are names": filled(elements[0], b"a", elements[1], b","),
+        "elements that are different names": different(*elements),
         "parts of a union": filled(goal[0], b"a", b" =i {} ; emp" + goal[1], b"++"),
         "literals": filled(pure[0], b"0<0", pure[1], b"&&"),
         "literals on names": filled(pure[0], b"a<a", pure[1], b"&&"),
@@ -79,6 +97,14 @@ def run(program, text):
     return used, line.decode().strip()
 
 
+def time_of(program, text):
+    """The time of the processor that a run takes, in milliseconds."""
+    before = resource.getrusage(resource.RUSAGE_CHILDREN)
+    subprocess.run([program, "synth"], input=text, capture_output=True, check=False)
+    after = resource.getrusage(resource.RUSAGE_CHILDREN)
+    return 1000 * (after.ru_utime - before.ru_utime + after.ru_stime - before.ru_stime)
+
+
 def asked(program, text):
     """The most bytes of the heap that a run has asked for at once."""
     with tempfile.NamedTemporaryFile() as found:
@@ -97,7 +123,7 @@ def main():
         told = f"{(used - empty) / SIZE:.0f} bytes a byte resident"
         if shutil.which("valgrind"):
             told += f", {asked(program, text) / SIZE:.0f} asked for"
-        print(f"{kind}: {told}; {line}")
+        print(f"{kind}: {told}, {time_of(program, text):.0f} ms; {line}")
 
 
 main()
