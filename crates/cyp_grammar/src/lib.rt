@@ -1,6 +1,7 @@
 //! Grammars as relations between texts and trees: definitions, and the names in trees.
 #![tactic(auto)]
 
+mod few;
 mod ident;
 mod name;
 mod want;

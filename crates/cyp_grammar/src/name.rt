@@ -1,6 +1,6 @@
 ghost use Rattle.std.specs.Prelude.{IfOk, ◌≡◌};
 
-use arrayvec::ArrayVec;
+use crate::few::Few;
 use cyp_term::{List, NoMemory, Shared, Text};
 use std::alloc::Global;
 use std::marker::Model;
@@ -8,11 +8,11 @@ use std::marker::Model;
 /// Where a name keeps its bytes.
 #[derive(Debug, Drop)]
 enum Kept {
-    Short(ArrayVec<u8, 8>),
+    Short(Few),
     Long(Shared<Text>),
 }
 
-/// The bytes of a name, which contracts see as their list. A name of at most eight bytes takes no
+/// The bytes of a name, which contracts see as their list. A name of at most seven bytes takes no
 /// memory beside itself.
 #[derive(Debug, Drop)]
 pub struct Name {
@@ -33,10 +33,10 @@ impl Name {
     pub fn new(alloc: Global, bytes: &[u8]) -> Result<Name, NoMemory>
         ensures { IfOk result (λ n. n ≡ bytes.now) }
     {
-        let mut short = ArrayVec::new();
-        let kept = match short.try_extend_from_slice(bytes) {
-            Ok(()) => Kept::Short(short),
-            Err(_) => Kept::Long(Shared::new(alloc, List::from_vec(bytes.to_vec(alloc)?))?),
+        let kept = if bytes.len() <= 7 {
+            Kept::Short(Few::new(bytes))
+        } else {
+            Kept::Long(Shared::new(alloc, List::from_vec(bytes.to_vec(alloc)?))?)
         };
         Ok(Name { kept })
     }

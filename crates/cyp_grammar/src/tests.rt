@@ -6,9 +6,9 @@ fn short_and_long_names_keep_their_bytes(rt: HostRuntime) -> Result<(), Failed> 
     for bytes in [
         b"".as_slice(),
         b"x",
+        b"abcdefg",
         b"abcdefgh",
-        b"abcdefghi",
-        b"a_name_that_is_longer_than_eight_bytes",
+        b"a_name_that_is_longer_than_seven_bytes",
     ] {
         let name = Name::new(rt.alloc(), bytes)?;
         assert_eq!(rt; name.as_slice(), bytes);
