@@ -48,12 +48,9 @@ pruned a b n =
 abbrev numbered : List Var → Node → Node
 numbered vs n = let m : Node = apply_node (numbering vs) n in record m { goal = record m.goal { program = map (new_name vs) n.goal.program; exist = map (new_name vs) n.goal.exist } }
 
-module _ (preds : PredsValue) (size : ℕ → ℕ) where
+module _ (size : ℕ → ℕ) where
   abbrev other : Chunk → Chunk
   other = resized size
-
-  abbrev dress : Node → Node
-  dress = dressed preds size
 
   -- ---- chunks
 
@@ -102,142 +99,146 @@ module _ (preds : PredsValue) (size : ℕ → ℕ) where
   applied-other : (by : Subst) (cs : List Chunk) → map (apply_chunk by) (map other cs) ≡ map other (map (apply_chunk by) cs)
   applied-other by cs = map_both other (apply_chunk by) (apply_chunk by) other (apply-other by) cs
 
-  -- ---- substitution
+  module _ (preds : PredsValue) where
+    abbrev dress : Node → Node
+    dress = dressed preds size
 
-  apply-dressed : (by : Subst) (n : Node) → apply_node by (dress n) ≡ dress (apply_node by n)
-  apply-dressed by n =
-      let g : Goal = n.goal in
-      λ i. record {
-        preds = preds;
-        goal = record {
-          program = g.program;
-          exist = g.exist;
-          pure_pre = map (apply_lit by) g.pure_pre;
-          pre = record { chunks = applied-other by g.pre.chunks i };
-          pure_post = map (apply_lit by) g.pure_post;
-          post = record { chunks = applied-other by g.post.chunks i };
-        };
-        links = map (apply_link by) n.links;
-      }
+    -- ---- substitution
 
-  wide-dressed : (n : Node) → wide_node (dress n) ≡ wide_node n
-  wide-dressed n =
-      let g : Goal = n.goal in
-      let pre = list_any-map other wide_chunk wide_chunk wide-other g.pre.chunks in
-      let post = list_any-map other wide_chunk wide_chunk wide-other g.post.chunks in
-      λ i. (list_any wide_lit g.pure_pre || pre i || list_any wide_lit g.pure_post || post i) || list_any wide_link n.links
+    apply-dressed : (by : Subst) (n : Node) → apply_node by (dress n) ≡ dress (apply_node by n)
+    apply-dressed by n =
+        let g : Goal = n.goal in
+        λ i. record {
+          preds = preds;
+          goal = record {
+            program = g.program;
+            exist = g.exist;
+            pure_pre = map (apply_lit by) g.pure_pre;
+            pre = record { chunks = applied-other by g.pre.chunks i };
+            pure_post = map (apply_lit by) g.pure_post;
+            post = record { chunks = applied-other by g.post.chunks i };
+          };
+          links = map (apply_link by) n.links;
+        }
 
-  substitute-dressed : (by : Subst) (n : Node) → substitute by (dress n) ≡ option_map dress (substitute by n)
-  substitute-dressed by n =
-      ap₂ (λ b m. cond (wide_subst by || b) None (Some m)) (ap wide_node (apply-dressed by n) ∙ wide-dressed (apply_node by n)) (apply-dressed by n)
-      ∙ at_cond (option_map dress) (wide_subst by || wide_node (apply_node by n)) None (Some (apply_node by n))
+    wide-dressed : (n : Node) → wide_node (dress n) ≡ wide_node n
+    wide-dressed n =
+        let g : Goal = n.goal in
+        let pre = list_any-map other wide_chunk wide_chunk wide-other g.pre.chunks in
+        let post = list_any-map other wide_chunk wide_chunk wide-other g.post.chunks in
+        λ i. (list_any wide_lit g.pure_pre || pre i || list_any wide_lit g.pure_post || post i) || list_any wide_link n.links
 
-  -- ---- solving
+    substitute-dressed : (by : Subst) (n : Node) → substitute by (dress n) ≡ option_map dress (substitute by n)
+    substitute-dressed by n =
+        ap₂ (λ b m. cond (wide_subst by || b) None (Some m)) (ap wide_node (apply-dressed by n) ∙ wide-dressed (apply_node by n)) (apply-dressed by n)
+        ∙ at_cond (option_map dress) (wide_subst by || wide_node (apply_node by n)) None (Some (apply_node by n))
 
-  module _ (again : Node → Option Node) (later : (m : Node) → again (dress m) ≡ option_map dress (again m)) where
-    and_then-dressed : (o : Option Node) → option_and_then again (option_map dress o) ≡ option_map dress (option_and_then again o)
-    and_then-dressed None = refl
-    and_then-dressed (Some m) = later m
+    -- ---- solving
 
-    turn-dressed : (put : Node → List Lit → Node) → ((m : Node) (ls : List Lit) → put (dress m) ls ≡ dress (put m ls))
-        → (n : Node) (o : Option (Subst × List Lit)) → turn again put (dress n) o ≡ option_map dress (turn again put n o)
-    turn-dressed put puts n None = refl
-    turn-dressed put puts n (Some p) =
-        ap (option_and_then again) (ap (substitute p.0) (puts n p.1) ∙ substitute-dressed p.0 (put n p.1)) ∙ and_then-dressed (substitute p.0 (put n p.1))
+    module _ (again : Node → Option Node) (later : (m : Node) → again (dress m) ≡ option_map dress (again m)) where
+      and_then-dressed : (o : Option Node) → option_and_then again (option_map dress o) ≡ option_map dress (option_and_then again o)
+      and_then-dressed None = refl
+      and_then-dressed (Some m) = later m
 
-  solve_pre-dressed : (k : ℕ) (n : Node) → solve_pre k (dress n) ≡ option_map dress (solve_pre k n)
-  solve_pre-dressed zero n = refl
-  solve_pre-dressed (suc k) n =
-      turn-dressed (solve_pre k) (solve_pre-dressed k) with_pre (λ m ls. refl) n (first_solved (solved_eq (is_logical n.goal)) n.goal.pure_pre)
+      turn-dressed : (put : Node → List Lit → Node) → ((m : Node) (ls : List Lit) → put (dress m) ls ≡ dress (put m ls))
+          → (n : Node) (o : Option (Subst × List Lit)) → turn again put (dress n) o ≡ option_map dress (turn again put n o)
+      turn-dressed put puts n None = refl
+      turn-dressed put puts n (Some p) =
+          ap (option_and_then again) (ap (substitute p.0) (puts n p.1) ∙ substitute-dressed p.0 (put n p.1)) ∙ and_then-dressed (substitute p.0 (put n p.1))
 
-  solve_post-dressed : (k : ℕ) (n : Node) → solve_post k (dress n) ≡ option_map dress (solve_post k n)
-  solve_post-dressed zero n = refl
-  solve_post-dressed (suc k) n =
-      turn-dressed (solve_post k) (solve_post-dressed k) with_post (λ m ls. refl) n (first_solved (solved_any (λ v. var_in v n.goal.exist)) n.goal.pure_post)
+    solve_pre-dressed : (k : ℕ) (n : Node) → solve_pre k (dress n) ≡ option_map dress (solve_pre k n)
+    solve_pre-dressed zero n = refl
+    solve_pre-dressed (suc k) n =
+        turn-dressed (solve_pre k) (solve_pre-dressed k) with_pre (λ m ls. refl) n (first_solved (solved_eq (is_logical n.goal)) n.goal.pure_pre)
 
-  abbrev whole_post : Node → Option Node
-  whole_post m = solve_post (length m.goal.pure_post) m
+    solve_post-dressed : (k : ℕ) (n : Node) → solve_post k (dress n) ≡ option_map dress (solve_post k n)
+    solve_post-dressed zero n = refl
+    solve_post-dressed (suc k) n =
+        turn-dressed (solve_post k) (solve_post-dressed k) with_post (λ m ls. refl) n (first_solved (solved_any (λ v. var_in v n.goal.exist)) n.goal.pure_post)
 
-  solve-dressed : (n : Node) → solve (dress n) ≡ option_map dress (solve n)
-  solve-dressed n =
-      ap (option_and_then whole_post) (solve_pre-dressed (length n.goal.pure_pre) n)
-      ∙ and_then-dressed whole_post (λ m. solve_post-dressed (length m.goal.pure_post) m) (solve_pre (length n.goal.pure_pre) n)
+    abbrev whole_post : Node → Option Node
+    whole_post m = solve_post (length m.goal.pure_post) m
 
-  -- ---- the steps behind solving
+    solve-dressed : (n : Node) → solve (dress n) ≡ option_map dress (solve n)
+    solve-dressed n =
+        ap (option_and_then whole_post) (solve_pre-dressed (length n.goal.pure_pre) n)
+        ∙ and_then-dressed whole_post (λ m. solve_post-dressed (length m.goal.pure_post) m) (solve_pre (length n.goal.pure_pre) n)
 
-  tidy_node-dressed : (n : Node) → tidy_node (dress n) ≡ dress (tidy_node n)
-  tidy_node-dressed n =
-      let g : Goal = n.goal in
-      let found = flat-other address address-other g.pre.chunks in
-      λ i. record {
-        preds = preds;
-        goal = record {
-          program = g.program;
-          exist = g.exist;
-          pure_pre = with_all_new lit_eq (tidy_lits g.pure_pre) (address_lits (found i));
-          pre = record { chunks = map other g.pre.chunks };
-          pure_post = tidy_lits g.pure_post;
-          post = record { chunks = map other g.post.chunks };
-        };
-        links = n.links;
-      }
+    -- ---- the steps behind solving
 
-  prune-dressed : (n : Node) → prune (dress n) ≡ dress (prune n)
-  prune-dressed n = ap₂ (λ a b. pruned a b (dress n)) (chunks_vars-other n.goal.pre.chunks) (chunks_vars-other n.goal.post.chunks)
+    tidy_node-dressed : (n : Node) → tidy_node (dress n) ≡ dress (tidy_node n)
+    tidy_node-dressed n =
+        let g : Goal = n.goal in
+        let found = flat-other address address-other g.pre.chunks in
+        λ i. record {
+          preds = preds;
+          goal = record {
+            program = g.program;
+            exist = g.exist;
+            pure_pre = with_all_new lit_eq (tidy_lits g.pure_pre) (address_lits (found i));
+            pre = record { chunks = map other g.pre.chunks };
+            pure_post = tidy_lits g.pure_post;
+            post = record { chunks = map other g.post.chunks };
+          };
+          links = n.links;
+        }
 
-  node_vars-dressed : (n : Node) → node_vars (dress n) ≡ node_vars n
-  node_vars-dressed n =
-      let g : Goal = n.goal in
-      let pre = chunks_vars-other g.pre.chunks in
-      let post = chunks_vars-other g.post.chunks in
-      λ i. without_repeats var_eq ((g.program ++ pre i ++ post i ++ lits_vars g.pure_pre ++ lits_vars g.pure_post)
-      ++ flat_map (λ (k : Link). flat_map term_vars k.tuple ++ image_vars k.map) n.links)
+    prune-dressed : (n : Node) → prune (dress n) ≡ dress (prune n)
+    prune-dressed n = ap₂ (λ a b. pruned a b (dress n)) (chunks_vars-other n.goal.pre.chunks) (chunks_vars-other n.goal.post.chunks)
 
-  renumber-dressed : (n : Node) → renumber (dress n) ≡ dress (renumber n)
-  renumber-dressed n =
-      let vs : List Var = node_vars n in
-      let g : Goal = n.goal in
-      ap (λ (ws : List Var). numbered ws (dress n)) (node_vars-dressed n)
-      ∙ (λ i. let m : Node = apply-dressed (numbering vs) n i in record m { goal = record m.goal { program = map (new_name vs) g.program; exist = map (new_name vs) g.exist } })
+    node_vars-dressed : (n : Node) → node_vars (dress n) ≡ node_vars n
+    node_vars-dressed n =
+        let g : Goal = n.goal in
+        let pre = chunks_vars-other g.pre.chunks in
+        let post = chunks_vars-other g.post.chunks in
+        λ i. without_repeats var_eq ((g.program ++ pre i ++ post i ++ lits_vars g.pure_pre ++ lits_vars g.pure_post)
+        ++ flat_map (λ (k : Link). flat_map term_vars k.tuple ++ image_vars k.map) n.links)
 
-  limits-dressed : (n : Node) → is_within_limits (dress n) ≡ is_within_limits n
-  limits-dressed n =
-      let g : Goal = n.goal in
-      let pre = length-map g.pre.chunks other in
-      let post = length-map g.post.chunks other in
-      let vars = node_vars-dressed n in
-      let first = flat-other chunk_elements elements-other g.pre.chunks in
-      let second = flat-other chunk_elements elements-other g.post.chunks in
-      let before = sum-other chunk_units units-other g.pre.chunks in
-      let behind = sum-other chunk_units units-other g.post.chunks in
-      λ i. nat_le (pre i) 16 && nat_le (post i) 16
-      && nat_le (length g.pure_pre) 40 && nat_le (length g.pure_post) 40
-      && nat_le (length g.program) 12
-      && nat_le (length (filter (λ v. not (is_set_var v)) (vars i))) 32
-      && nat_le (length (filter is_set_var (vars i))) 12
-      && nat_le (length (without_repeats term_eq (flat_map lit_elements g.pure_pre ++ first i ++ flat_map lit_elements g.pure_post ++ second i))) 6
-      && nat_le (length n.links) 4
-      && nat_le (length g.program + before i + behind i + sum_by lit_units g.pure_pre + sum_by lit_units g.pure_post + sum_by link_units n.links) 240
+    renumber-dressed : (n : Node) → renumber (dress n) ≡ dress (renumber n)
+    renumber-dressed n =
+        let vs : List Var = node_vars n in
+        let g : Goal = n.goal in
+        ap (λ (ws : List Var). numbered ws (dress n)) (node_vars-dressed n)
+        ∙ (λ i. let m : Node = apply-dressed (numbering vs) n i in record m { goal = record m.goal { program = map (new_name vs) g.program; exist = map (new_name vs) g.exist } })
 
-  keep_limits-dressed : (n : Node) → keep_limits (dress n) ≡ option_map (dressed_renaming preds size) (keep_limits n)
-  keep_limits-dressed n =
-      let m : Node = renumber n in
-      ap₂ (λ b (x : Node). cond b (Some (record { node = x; old = n.goal.program })) None) (ap is_within_limits (renumber-dressed n) ∙ limits-dressed m) (renumber-dressed n)
-      ∙ at_cond (option_map (dressed_renaming preds size)) (is_within_limits m) (Some (record { node = m; old = n.goal.program })) None
+    limits-dressed : (n : Node) → is_within_limits (dress n) ≡ is_within_limits n
+    limits-dressed n =
+        let g : Goal = n.goal in
+        let pre = length-map g.pre.chunks other in
+        let post = length-map g.post.chunks other in
+        let vars = node_vars-dressed n in
+        let first = flat-other chunk_elements elements-other g.pre.chunks in
+        let second = flat-other chunk_elements elements-other g.post.chunks in
+        let before = sum-other chunk_units units-other g.pre.chunks in
+        let behind = sum-other chunk_units units-other g.post.chunks in
+        λ i. nat_le (pre i) 16 && nat_le (post i) 16
+        && nat_le (length g.pure_pre) 40 && nat_le (length g.pure_post) 40
+        && nat_le (length g.program) 12
+        && nat_le (length (filter (λ v. not (is_set_var v)) (vars i))) 32
+        && nat_le (length (filter is_set_var (vars i))) 12
+        && nat_le (length (without_repeats term_eq (flat_map lit_elements g.pure_pre ++ first i ++ flat_map lit_elements g.pure_post ++ second i))) 6
+        && nat_le (length n.links) 4
+        && nat_le (length g.program + before i + behind i + sum_by lit_units g.pure_pre + sum_by lit_units g.pure_post + sum_by link_units n.links) 240
 
-  -- ---- all steps
+    keep_limits-dressed : (n : Node) → keep_limits (dress n) ≡ option_map (dressed_renaming preds size) (keep_limits n)
+    keep_limits-dressed n =
+        let m : Node = renumber n in
+        ap₂ (λ b (x : Node). cond b (Some (record { node = x; old = n.goal.program })) None) (ap is_within_limits (renumber-dressed n) ∙ limits-dressed m) (renumber-dressed n)
+        ∙ at_cond (option_map (dressed_renaming preds size)) (is_within_limits m) (Some (record { node = m; old = n.goal.program })) None
 
-  abbrev finish : Node → Option Renaming
-  finish m = keep_limits (prune (tidy_node m))
+    -- ---- all steps
 
-  finish-dressed : (m : Node) → finish (dress m) ≡ option_map (dressed_renaming preds size) (finish m)
-  finish-dressed m =
-      let t : Node = tidy_node m in
-      ap keep_limits (ap prune (tidy_node-dressed m) ∙ prune-dressed t) ∙ keep_limits-dressed (prune t)
+    abbrev finish : Node → Option Renaming
+    finish m = keep_limits (prune (tidy_node m))
 
-  finish_all : (o : Option Node) → option_and_then finish (option_map dress o) ≡ option_map (dressed_renaming preds size) (option_and_then finish o)
-  finish_all None = refl
-  finish_all (Some m) = finish-dressed m
+    finish-dressed : (m : Node) → finish (dress m) ≡ option_map (dressed_renaming preds size) (finish m)
+    finish-dressed m =
+        let t : Node = tidy_node m in
+        ap keep_limits (ap prune (tidy_node-dressed m) ∙ prune-dressed t) ∙ keep_limits-dressed (prune t)
+
+    finish_all : (o : Option Node) → option_and_then finish (option_map dress o) ≡ option_map (dressed_renaming preds size) (option_and_then finish o)
+    finish_all None = refl
+    finish_all (Some m) = finish-dressed m
 
 pub dressing_law : DressingLaw
-dressing_law preds size n = ap (option_and_then (finish preds size)) (solve-dressed preds size n) ∙ finish_all preds size (solve n)
+dressing_law preds size n = ap (option_and_then (finish size preds)) (solve-dressed size preds n) ∙ finish_all size preds (solve n)

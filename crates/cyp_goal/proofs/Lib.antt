@@ -1,5 +1,4 @@
 pub mod Added
-pub mod AddressLits
 pub mod AllNew
 pub mod Differing
 pub mod DressedNormal
@@ -43,7 +42,6 @@ pub mod Shrink
 pub mod SolveLeaves
 pub mod SolvedLits
 pub mod SolvingTurns
-pub mod Tidied
 pub mod Spreading
 pub mod TidyLeaves
 pub mod VarTables
@@ -52,3 +50,6 @@ pub mod Finished
 pub mod NumberedKeeps
 pub mod ReadyNodes
 pub mod RenumberAll
+pub mod FirstOnes
+pub mod KeptLits
+pub mod SameLits

@@ -1,13 +1,12 @@
-ghost use Rattle.std.specs.Prelude.{◌≡◌, ◌&&◌, IfOk, IsTrue, None, OnOk, Some, int_le, map, pos};
+ghost use Rattle.std.specs.Prelude.{[], ◌≡◌, ◌&&◌, ◌++◌, ◌∷◌, IfOk, IsTrue, None, OnOk, Some, int_le, map, pos};
 ghost use Rattle.std.specs.List.{All, filter, flat_map};
 ghost use Rattle.cyp_goal.specs.Least.{least_term, lesser};
 ghost use Rattle.cyp_goal.specs.Tidying.{above_zero, address, address_lits, least_of, offsets_at};
-ghost use Rattle.cyp_term.specs.Terms.{base_eq, lit_eq, term_vars, var_eq, var_in, with_all_new, with_new, without_repeats};
+ghost use Rattle.cyp_term.specs.Terms.{base_eq, term_vars, var_eq, var_in, with_all_new, without_repeats};
 
 use crate::once::add_var;
-use crate::tidying::is_lit_among;
 use cyp_heap::Chunk;
-use cyp_term::{List, Lit, NoMemory, Term, Var};
+use cyp_term::{Lit, NoMemory, Term, Var};
 use std::alloc::Global;
 
 fn addresses(alloc: Global, chunks: &[Chunk]) -> Result<Vec<Term>, NoMemory>
@@ -68,16 +67,6 @@ fn least(var: Var, terms: &[Term]) -> Option<Term>
     best
 }
 
-/// Adds the literal at the end, unless it stands there.
-fn add_lit(lits: &mut Vec<Lit>, lit: Lit) -> Result<(), NoMemory>
-    ensures { OnOk result (lits.new.items ≡ with_new lit_eq lits.old.items lit) }
-{
-    if !is_lit_among(&lit, lits.as_slice()) {
-        lits.push(lit)?;
-    }
-    Ok(())
-}
-
 fn above_zero(term: Term) -> Lit
     ensures { result ≡ above_zero term }
 {
@@ -87,17 +76,17 @@ fn above_zero(term: Term) -> Lit
 /// Adds that the least of the addresses with this base is positive.
 fn add_least(lits: &mut Vec<Lit>, base: Var, terms: &[Term]) -> Result<(), NoMemory>
     requires { IsTrue (var_in base (flat_map term_vars terms.now)) }
-    ensures { OnOk result (lits.new.items ≡ with_new lit_eq lits.old.items (above_zero (record { base = Some base; offset = least_of (offsets_at base terms.now) }))) }
+    ensures { OnOk result (lits.new.items ≡ lits.old.items ++ above_zero (record { base = Some base; offset = least_of (offsets_at base terms.now) }) ∷ []) }
 {
     match least(base, terms) {
-        Some(term) => add_lit(lits, above_zero(term)),
+        Some(term) => Ok(lits.push(above_zero(term))?),
         None => unreachable!(),
     }
 }
 
 fn add_bases(lits: &mut Vec<Lit>, bases: &[Var], terms: &[Term]) -> Result<(), NoMemory>
     requires { All (λ v. IsTrue (var_in v (flat_map term_vars terms.now))) bases.now }
-    ensures { OnOk result (lits.new.items ≡ with_all_new lit_eq lits.old.items (map (λ v. above_zero (record { base = Some v; offset = least_of (offsets_at v terms.now) })) bases.now)) }
+    ensures { OnOk result (lits.new.items ≡ lits.old.items ++ map (λ v. above_zero (record { base = Some v; offset = least_of (offsets_at v terms.now) })) bases.now) }
 {
     for base in bases {
         add_least(lits, *base, terms)?;
@@ -113,28 +102,26 @@ fn is_no_address(term: &Term) -> bool
 
 /// Adds for each plain number that isn't positive that it is, which is false.
 fn add_numbers(lits: &mut Vec<Lit>, terms: &[Term]) -> Result<(), NoMemory>
-    ensures { OnOk result (lits.new.items ≡ with_all_new lit_eq lits.old.items (map above_zero (filter (λ t. base_eq t.base None && int_le t.offset (pos 0)) terms.now))) }
+    ensures { OnOk result (lits.new.items ≡ lits.old.items ++ map above_zero (filter (λ t. base_eq t.base None && int_le t.offset (pos 0)) terms.now)) }
 {
     for term in terms {
         if is_no_address(term) {
-            add_lit(lits, above_zero(*term))?;
+            lits.push(above_zero(*term))?;
         }
     }
     Ok(())
 }
 
-/// The literals, and that the addresses of the chunks are positive.
-pub(crate) fn with_addresses(
+/// Adds that the addresses of the chunks are positive.
+pub(crate) fn add_addresses(
     alloc: Global,
-    lits: List<Lit>,
+    lits: &mut Vec<Lit>,
     chunks: &[Chunk],
-) -> Result<List<Lit>, NoMemory>
-    ensures { IfOk result (λ ls. ls ≡ with_all_new lit_eq lits (address_lits (flat_map address chunks.now))) }
+) -> Result<(), NoMemory>
+    ensures { OnOk result (lits.new.items ≡ lits.old.items ++ address_lits (flat_map address chunks.now)) }
 {
     let terms = addresses(alloc, chunks)?;
     let bases = bases_of(alloc, terms.as_slice())?;
-    let mut lits = lits.into_vec();
-    add_bases(&mut lits, bases.as_slice(), terms.as_slice())?;
-    add_numbers(&mut lits, terms.as_slice())?;
-    Ok(List::from_vec(lits))
+    add_bases(lits, bases.as_slice(), terms.as_slice())?;
+    add_numbers(lits, terms.as_slice())
 }

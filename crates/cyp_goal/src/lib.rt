@@ -13,6 +13,7 @@ mod numbering;
 mod occurs;
 mod once;
 mod pruning;
+mod repeats;
 mod solving;
 mod substitution;
 mod tidying;

@@ -7,7 +7,6 @@ use Rattle.cyp_goal.proofs.DressedNormal.{elements-other, flat-other, vars-other
 use Rattle.cyp_goal.specs.Dressed.{resized, resized_goal}
 use Rattle.cyp_heap.specs.Chunks.{chunk_vars}
 use Rattle.cyp_heap.specs.Goals.{goal_vars}
-use Rattle.cyp_heap.specs.PredsValue.{PredsValue}
 use Rattle.cyp_heap.specs.Limits.{chunk_elements, goal_elements, is_goal_within}
 use Rattle.cyp_heap.specs.declared.goal.Goal.{Goal}
 use Rattle.cyp_limits.proofs.ClauseTests.{chunks_count}
@@ -27,7 +26,7 @@ use Rattle.cyp_text.proofs.PrintedGoals.{ok}
 use Rattle.cyp_text.specs.Bodies.{kept_body}
 use Rattle.cyp_text.specs.NameFaults.{name_faults}
 use Rattle.cyp_text.specs.ReadTerms.{read_chunks}
-use Rattle.cyp_text.specs.Specifications.{count_sort, goal_scope, read_goal, read_preds}
+use Rattle.cyp_text.specs.Specifications.{count_sort, goal_scope, read_goal}
 use Rattle.cyp_text.specs.Uses.{param_uses}
 use Rattle.cyp_text.specs.declared.tree.TextTree.{TextTree}
 
@@ -40,17 +39,17 @@ limit_test a b g vs es =
     nat_le a 16 && nat_le b 16 && nat_le (length g.pure_pre) 40 && nat_le (length g.pure_post) 40 && nat_le (length g.program) 12
     && nat_le (length (filter (λ (v : Var). sort_eq v.sort Int) ws)) 64 && nat_le (length (filter is_set_var ws)) 32 && nat_le (length (without_repeats term_eq es)) 32
 
-within_resized : (p : PredsValue) (g : Goal) → is_goal_within (resized_goal clamp g) ≡ is_goal_within g
-within_resized p g = λ i.
+within_resized : (g : Goal) → is_goal_within (resized_goal clamp g) ≡ is_goal_within g
+within_resized g = λ i.
     limit_test (length-map g.pre.chunks (resized clamp) i) (length-map g.post.chunks (resized clamp) i) g
-    (g.program ++ flat-other p clamp chunk_vars (vars-other p clamp) g.pre.chunks i ++ flat-other p clamp chunk_vars (vars-other p clamp) g.post.chunks i ++ lits_vars g.pure_pre ++ lits_vars g.pure_post)
-    (flat_map lit_elements g.pure_pre ++ flat-other p clamp chunk_elements (elements-other p clamp) g.pre.chunks i ++ flat_map lit_elements g.pure_post ++ flat-other p clamp chunk_elements (elements-other p clamp) g.post.chunks i)
+    (g.program ++ flat-other clamp chunk_vars (vars-other clamp) g.pre.chunks i ++ flat-other clamp chunk_vars (vars-other clamp) g.post.chunks i ++ lits_vars g.pure_pre ++ lits_vars g.pure_post)
+    (flat_map lit_elements g.pure_pre ++ flat-other clamp chunk_elements (elements-other clamp) g.pre.chunks i ++ flat_map lit_elements g.pure_post ++ flat-other clamp chunk_elements (elements-other clamp) g.post.chunks i)
 
 -- ---- the goal of a text
 
 module _ (t : TextTree) where
   pub within_mended : is_goal_within (read_goal (mended_text t)) ≡ is_goal_within (read_goal t)
-  within_mended = ap is_goal_within (goal_mended t) ∙ within_resized (read_preds t.preds) (read_goal t)
+  within_mended = ap is_goal_within (goal_mended t) ∙ within_resized (read_goal t)
 
   -- too many chunks in the precondition
   pub many_in_pre : 16 < length t.pre.chunks → is_goal_within (read_goal t) ≡ false

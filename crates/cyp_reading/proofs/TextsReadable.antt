@@ -39,7 +39,7 @@ use Rattle.cyp_text.proofs.FormedSorts.{name_sort as goal_sort}
 use Rattle.cyp_text.proofs.PrintedClauses.{in_body, in_guard, ok as clause_ok}
 use Rattle.cyp_text.proofs.PrintedGoals.{in_post, in_pre, ok as goal_ok}
 use Rattle.cyp_text.proofs.PrintedNames.{Nameable}
-use Rattle.cyp_text.proofs.PrintedPreds.{clause_right, clause_within, four, once}
+use Rattle.cyp_text.proofs.PrintedPreds.{clause_right, clause_within, each_part_none, once}
 
 -- ---- few names
 
@@ -127,7 +127,7 @@ module _ (qs : List PredTree) (right : flat_map (pred_faults qs) qs ≡ []) (wit
     q_within = none_each (pred_limit_faults qs) qs within q m
 
     sizes_right : (c : ClauseTree) → Among c (clauses q) → size_faults c.body ≡ []
-    sizes_right = none_each (λ (c : ClauseTree). size_faults c.body) (clauses q) (four qs q q_right q_within).2
+    sizes_right = none_each (λ (c : ClauseTree). size_faults c.body) (clauses q) (each_part_none qs q q_right q_within).2
 
     clause_readable : (c : ClauseTree) → Among c (clauses q) → ClauseSmall c → ClauseReadable qs q.params c
     clause_readable c n s =

@@ -63,15 +63,15 @@ module _ (qs : List PredTree) (q : PredTree) (right : pred_faults qs q ≡ []) (
   abbrev limit_part : List Fault
   limit_part = cond (is_pred_within (read_pred qs q)) [] (fault_at TooLarge q.name.place)
 
-  pub four : (overlap_part ≡ []) × (owner_part ≡ []) × (size_part ≡ []) × (limit_part ≡ [])
-  four =
+  pub each_part_none : (overlap_part ≡ []) × (owner_part ≡ []) × (size_part ≡ []) × (limit_part ≡ [])
+  each_part_none =
       let a = none_both (overlap_part ++ owner_part ++ size_part) limit_part limits in
       let b = none_both (overlap_part ++ owner_part) size_part a.0 in
       let c = none_both overlap_part owner_part b.0 in
       (c.0, c.1, b.1, a.1)
 
   pred_within : is_pred_within (read_pred qs q) ≡ true
-  pred_within = test_true (is_pred_within (read_pred qs q)) _ [] four.3
+  pred_within = test_true (is_pred_within (read_pred qs q)) _ [] each_part_none.3
 
   pub clause_within : (c : ClauseTree) → Among c (clauses q) → is_clause_within (read_clause qs q.params c) ≡ true
   clause_within c m =
@@ -120,17 +120,17 @@ module _ (qs : List PredTree) (q : PredTree) (right : pred_faults qs q ≡ []) (
       all_none (c ∷ cs) = all_none cs
 
       guards : overlap_faults (guard_of (again_preds qs) again.params) [] (map (again_clause qs q.params) (clauses q)) ≡ []
-      guards = guards_apart (guard_of qs q.params) (guard_of (again_preds qs) again.params) (again_clause qs q.params) [] (clauses q) (λ c m. ap (λ (k : Clause). k.guard) (clause_back c m)) four.0
+      guards = guards_apart (guard_of qs q.params) (guard_of (again_preds qs) again.params) (again_clause qs q.params) [] (clauses q) (λ c m. ap (λ (k : Clause). k.guard) (clause_back c m)) each_part_none.0
 
       owners : flat_map unproductive_fault (map (again_clause qs q.params) (clauses q)) ≡ []
       owners =
           flat_among (again_clause qs q.params) unproductive_fault none (clauses q)
-          (λ c m. productive_again qs q.params c once (clause_right c m) (clause_within c m) (none_each unproductive_fault (clauses q) four.1 c m)) ∙ all_none (clauses q)
+          (λ c m. productive_again qs q.params c once (clause_right c m) (clause_within c m) (none_each unproductive_fault (clauses q) each_part_none.1 c m)) ∙ all_none (clauses q)
 
       sizes : flat_map (λ (c : ClauseTree). size_faults c.body) (map (again_clause qs q.params) (clauses q)) ≡ []
       sizes =
           flat_among (again_clause qs q.params) (λ (c : ClauseTree). size_faults c.body) none (clauses q)
-          (λ c m. clause_sizes_again qs q.params c once (clause_right c m) (clause_within c m) (none_each (λ (d : ClauseTree). size_faults d.body) (clauses q) four.2 c m)) ∙ all_none (clauses q)
+          (λ c m. clause_sizes_again qs q.params c once (clause_right c m) (clause_within c m) (none_each (λ (d : ClauseTree). size_faults d.body) (clauses q) each_part_none.2 c m)) ∙ all_none (clauses q)
 
       within : cond (is_pred_within (read_pred (again_preds qs) again)) [] (fault_at TooLarge 0) ≡ []
       within = ap (λ (p : Pred). cond (is_pred_within p) [] (fault_at TooLarge 0)) pred_again ∙ ap (λ (t : Bool). cond t [] (fault_at TooLarge 0)) pred_within
