@@ -40,5 +40,5 @@ module _ (ls : List Lit) (i : ℕ) (lt : i < length ls) (keys : List (Bor Lit)) 
   told_more news new whole b e added told =
       let rest : List Bool = are_new lit_eq (take i ls ++ x ∷ []) (drop (i + 1) ls) in
       let here : b ∷ rest ≡ are_new lit_eq (take i ls) (drop i ls) =
-          ap (λ c. c ∷ rest) (e ∙ ap not (by_either x keys ∙ same x)) ∙ ap (are_new lit_eq (take i ls)) (ap (λ l. l ∷ drop (i + 1) ls) is ∙ sym (drop_more ls i x lt)) in
+      ap (λ c. c ∷ rest) (e ∙ ap not (by_either x keys ∙ same x)) ∙ ap (are_new lit_eq (take i ls)) (ap (λ l. l ∷ drop (i + 1) ls) is ∙ sym (drop_more ls i x lt)) in
       (λ j. added j ++ are_new lit_eq (next j) (drop (i + 1) ls)) ∙ append_assoc news (b ∷ []) rest ∙ ap (λ bs. news ++ bs) here ∙ told
