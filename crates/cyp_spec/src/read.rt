@@ -67,5 +67,7 @@ pub fn read_spec(alloc: Global, text: &[u8]) -> Result<Spec, Fail<Fault>>
         }));
     }
     let tokens = tokens(alloc, text)?;
-    said(alloc, text, tokens)
+    let mut fitted = tokens.into_vec();
+    fitted.shrink_to_fit();
+    said(alloc, text, List::from_vec(fitted))
 }
