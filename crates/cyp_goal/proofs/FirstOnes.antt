@@ -1,5 +1,5 @@
 -- The items of a list that stand there for the first time are the list without repeats.
-use Rattle.std.proofs.Common.{◌≡◌, ◌∙◌, ◌||◌, [], ◌∷◌, ◌++◌, Bool, List, cond, false, true, not, Decides, refl, ap, sym}
+use Rattle.std.proofs.Common.{◌≡◌, ◌∙◌, ◌||◌, ◌≤◌, [], ◌∷◌, ◌++◌, Bool, List, arith, false, length, suc, true, not, refl, ap, sym}
 use Rattle.std.specs.List.{items_where_true, list_any}
 use Rattle.std.proofs.lemmas.Bool.{cond-false, cond-true}
 use Rattle.std.proofs.lemmas.List.{append_assoc, append-nil}
@@ -55,5 +55,25 @@ new_ones kept before [] same = sym (append-nil kept)
 new_ones kept before (x ∷ xs) same =
     one_on kept before x xs same (list_any (lit_eq x) before) refl (λ s. new_ones kept (before ++ x ∷ []) xs s) (λ s. new_ones (kept ++ x ∷ []) (before ++ x ∷ []) xs s)
 
-pub first_ones : (ls : List Lit) → items_where_true (are_new lit_eq [] ls) ls ≡ without_repeats lit_eq ls
+first_ones : (ls : List Lit) → items_where_true (are_new lit_eq [] ls) ls ≡ without_repeats lit_eq ls
 first_ones ls = sym (new_ones [] [] ls (λ q. refl))
+
+-- where no item is left, none is chosen
+pub all_chosen : {X : Type 0} (bs : List Bool) (xs made whole : List X) → length xs ≡ 0 → made ++ items_where_true bs xs ≡ whole → made ≡ whole
+all_chosen [] [] made whole e same = sym (append-nil made) ∙ same
+all_chosen (b ∷ bs) [] made whole e same = sym (append-nil made) ∙ same
+all_chosen bs (x ∷ xs) made whole e same = cc
+
+length-are_new : (before ls : List Lit) → length (are_new lit_eq before ls) ≡ length ls
+length-are_new before [] = refl
+length-are_new before (x ∷ xs) = ap suc (length-are_new (before ++ x ∷ []) xs)
+
+module _ (ls seen : List Lit) (news answers : List Bool) (is : seen ≡ ls) (told : news ≡ are_new lit_eq [] seen) (same : answers ≡ news) where
+  all_told : answers ≡ are_new lit_eq [] ls
+  all_told = same ∙ told ∙ ap (are_new lit_eq []) is
+
+  pub as_many_told : length ls ≤ length answers
+  as_many_told = let e : length answers ≡ length ls = ap length all_told ∙ length-are_new [] ls in omega (arith, e)
+
+  pub ones_told : items_where_true answers ls ≡ without_repeats lit_eq ls
+  ones_told = ap (λ bs. items_where_true bs ls) all_told ∙ first_ones ls

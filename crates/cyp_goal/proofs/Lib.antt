@@ -1,4 +1,5 @@
 pub mod Added
+pub mod AddressLits
 pub mod AllNew
 pub mod Differing
 pub mod DressedNormal

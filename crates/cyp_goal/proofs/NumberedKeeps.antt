@@ -1,5 +1,5 @@
 -- A node that is numbered anew and within limits keeps what each node keeps.
-use Rattle.std.proofs.Common.{◌≡◌, ◌∙◌, ◌⊎◌, [], ◌∷◌, ◌++◌, ◌<◌, ◌≤◌, List, Option, Some, None, Bool, IsTrue, true, filter, length, map, not, nat_le, nat_lt, refl, ap, subst, sym, arith, leb-true, ⊎_elim, is_none}
+use Rattle.std.proofs.Common.{◌≡◌, ◌∙◌, [], ◌∷◌, ◌++◌, ◌<◌, ◌≤◌, List, Option, Some, None, Bool, IsTrue, true, filter, length, map, not, nat_le, nat_lt, refl, ap, subst, sym, arith, leb-true, ⊎_elim, is_none}
 use Rattle.std.specs.List.{AllByRecursion, list_all}
 use Rattle.std.proofs.lemmas.Bool.{and_from, and_parts, false≢true, lt-ltb}
 use Rattle.std.proofs.lemmas.List.{length-map}

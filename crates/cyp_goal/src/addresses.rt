@@ -123,5 +123,6 @@ pub(crate) fn add_addresses(
     let terms = addresses(alloc, chunks)?;
     let bases = bases_of(alloc, terms.as_slice())?;
     add_bases(lits, bases.as_slice(), terms.as_slice())?;
-    add_numbers(lits, terms.as_slice())
+    add_numbers(lits, terms.as_slice())?;
+    Ok(())
 }

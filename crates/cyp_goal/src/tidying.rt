@@ -47,6 +47,7 @@ fn telling(lits: List<Lit>) -> Vec<Lit>
 
 /// Both pure parts without literals that tell nothing, and that the addresses of the pre are
 /// positive.
+#[tactic(auto, using(crate::proofs::AddressLits::tidied))]
 pub(crate) fn tidy(alloc: Global, draft: Draft) -> Result<Draft, NoMemory>
     ensures { IfOk result (λ d. d ≡ tidy_node draft) }
 {

@@ -1,11 +1,11 @@
-use Rattle.std.proofs.Common.{◌≡◌, ◌&&◌, Bool, None, drop, int_le, map, pos}
+use Rattle.std.proofs.Common.{◌≡◌, ◌&&◌, ◌++◌, Bool, None, drop, int_le, map, pos}
 use Rattle.std.specs.List.{filter}
 use Rattle.cyp_goal.specs.Tidying.{above_zero}
-use Rattle.cyp_term.specs.Terms.{base_eq, lit_eq, with_all_new}
+use Rattle.cyp_term.specs.Terms.{base_eq}
 use Rattle.cyp_term.specs.declared.term.Term.{Term}
 use Rattle.cyp_goal.proofs.addresses.add_numbers.Given as goal
 
 abbrev pub invariant-loop-term : goal.invariant-loop-term
 invariant-loop-term l =
     let test : Term → Bool = λ t. base_eq t.base None && int_le t.offset (pos 0) in
-    with_all_new lit_eq l.lits.items (map above_zero (filter test (drop l.term-index l.terms))) ≡ with_all_new lit_eq l.initial.lits.items (map above_zero (filter test l.terms))
+    l.lits.items ++ map above_zero (filter test (drop l.term-index l.terms)) ≡ l.initial.lits.items ++ map above_zero (filter test l.terms)

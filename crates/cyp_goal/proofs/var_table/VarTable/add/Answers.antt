@@ -1,4 +1,4 @@
-use Rattle.std.proofs.Common.{false, ap, sym, ◌∙◌}
+use Rattle.std.proofs.Common.{ap, sym, ◌∙◌}
 use Rattle.cyp_goal.proofs.VarTables.{card_more, card_room, int_more, int_room, more_room, set_more, set_room, table_more}
 use Rattle.cyp_term.specs.Terms.{var_in}
 use Rattle.cyp_goal.proofs.var_table.VarTable.add.Goals as goal
