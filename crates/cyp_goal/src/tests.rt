@@ -7,7 +7,9 @@ use crate::draft::TooLarge;
 use crate::goal_facts::facts;
 use crate::normal_form::{Renamed, normal};
 use cyp_heap::{BlockAt, CellAt, Chunk, Goal, Heap, Link, Preds, Raw};
-use cyp_term::{Fail as Refused, List, Lit, NoMemory, Shared, Sort, Subst, Term, Var};
+use cyp_term::{
+    Fail as Refused, IntBind, List, Lit, NoMemory, SetBind, SetTerm, Shared, Sort, Subst, Term, Var,
+};
 use std::alloc::Global;
 use std::test::Fail;
 
@@ -109,8 +111,7 @@ fn cells(alloc: Global, first: (Term, Term), second: (Term, Term)) -> Result<Hea
 
 /// A goal without chunks.
 fn goal(alloc: Global, program: List<Var>, pure_pre: List<Lit>) -> Goal
-    ensures pre { result.pre.chunks ≡ [] }
-    ensures post { result.post.chunks ≡ [] }
+    ensures { result ≡ record { program = program; exist = []; pure_pre = pure_pre; pre = record { chunks = [] }; pure_post = []; post = record { chunks = [] } } }
 {
     Goal {
         program,
@@ -262,34 +263,46 @@ fn numbers_the_pre_before_the_post(rt: HostRuntime) -> Result<(), Fail> {
     Ok(())
 }
 
-/// A companion with an empty goal and a measure of one term: its own, and the node's.
-fn companion(alloc: Global, own: Term, tuple: Term) -> Result<List<Link>, NoMemory>
+fn empty_map(alloc: Global) -> Subst
+    ensures { result ≡ record { ints = []; sets = [] } }
+{
+    Subst {
+        ints: none(alloc),
+        sets: none(alloc),
+    }
+}
+
+/// A companion with an empty goal, this map, and this measure: its own, and the node's.
+fn companion(
+    alloc: Global,
+    own: List<Term>,
+    map: Subst,
+    tuple: List<Term>,
+) -> Result<Link, NoMemory>
+    ensures { IfOk result (λ k. k ≡ record { goal = record { program = []; exist = []; pure_pre = []; pre = record { chunks = [] }; pure_post = []; post = record { chunks = [] } }; own = own; map = map; tuple = tuple }) }
+{
+    let goal = goal(alloc, none(alloc), none(alloc));
+    Ok(Link {
+        goal: Shared::new(alloc, goal)?,
+        own,
+        map,
+        tuple,
+    })
+}
+
+/// A companion with a measure of one term: its own, and the node's.
+fn one_companion(alloc: Global, own: Term, tuple: Term) -> Result<List<Link>, NoMemory>
     ensures { IfOk result (λ ks. ks ≡ record { goal = record { program = []; exist = []; pure_pre = []; pre = record { chunks = [] }; pure_post = []; post = record { chunks = [] } }; own = own ∷ []; map = record { ints = []; sets = [] }; tuple = tuple ∷ [] } ∷ []) }
 {
-    let goal = Goal {
-        program: none(alloc),
-        exist: none(alloc),
-        pure_pre: none(alloc),
-        pre: Heap::new(none(alloc)),
-        pure_post: none(alloc),
-        post: Heap::new(none(alloc)),
-    };
-    let link = Link {
-        goal: Shared::new(alloc, goal)?,
-        own: one(alloc, own)?,
-        map: Subst {
-            ints: none(alloc),
-            sets: none(alloc),
-        },
-        tuple: one(alloc, tuple)?,
-    };
-    one(alloc, link)
+    let own = one(alloc, own)?;
+    let tuple = one(alloc, tuple)?;
+    one(alloc, companion(alloc, own, empty_map(alloc), tuple)?)
 }
 
 fn below_a_companion(alloc: Global, lits: List<Lit>) -> Result<Renamed, Refused<TooLarge>> {
     let preds = Shared::new(alloc, Preds::new(none(alloc)))?;
     let goal = goal(alloc, none(alloc), lits);
-    let links = companion(alloc, bare(5), bare(5))?;
+    let links = one_companion(alloc, bare(5), bare(5))?;
     normal(alloc, Raw::new(preds, goal, links))
 }
 
@@ -299,7 +312,150 @@ fn keeps_what_a_measure_speaks_of(rt: HostRuntime) -> Result<(), Fail> {
     let lits = two(alloc, positive(bare(6)), positive(bare(5)))?;
     let normal = below_a_companion(alloc, lits)?;
     assert!(rt; has_lits(&normal, &all_positive(alloc, 1)?));
-    assert!(rt; *normal.node.links() == companion(alloc, bare(5), bare(0))?);
+    assert!(rt; *normal.node.links() == one_companion(alloc, bare(5), bare(0))?);
+    Ok(())
+}
+
+// ---- what the papers leave open of the normal form
+
+fn is_too_large(alloc: Global, lits: List<Lit>) -> bool {
+    matches!(of_lits(alloc, lits), Err(Refused::Named(TooLarge)))
+}
+
+/// The term that a variable is solved to counts, even where the variable stands nowhere else.
+fn solved_term_counts(alloc: Global) -> Result<bool, NoMemory> {
+    Ok(is_too_large(alloc, one(alloc, Lit::Eq(plus(5, -1), plus(3, WIDEST)))?))
+}
+
+/// Offsets count after each substitution.
+fn each_substitution_counts(alloc: Global) -> Result<bool, NoMemory> {
+    let wider = two(
+        alloc,
+        Lit::Eq(bare(5), plus(3, WIDEST)),
+        Lit::Eq(bare(6), plus(5, 1)),
+    )?;
+    let narrower = two(
+        alloc,
+        Lit::Eq(bare(5), plus(3, WIDEST)),
+        Lit::Eq(bare(6), plus(5, -1)),
+    )?;
+    Ok(is_too_large(alloc, wider) && !is_too_large(alloc, narrower))
+}
+
+/// The union of two integers.
+fn pair(alloc: Global, first: u8, second: u8) -> Result<SetTerm, NoMemory> {
+    Ok(SetTerm::new(none(alloc), two(alloc, bare(first), bare(second))?))
+}
+
+/// That the unions of the variables 3 and 4 and of these two are equal.
+fn same_pairs(alloc: Global, first: u8, second: u8) -> Result<List<Lit>, NoMemory> {
+    one(
+        alloc,
+        Lit::Same(pair(alloc, 3, 4)?, pair(alloc, first, second)?),
+    )
+}
+
+/// Unions are alike where their parts stand in one order.
+fn unions_go_by_order(alloc: Global) -> Result<bool, Refused<TooLarge>> {
+    let alike = of_lits(alloc, same_pairs(alloc, 3, 4)?)?;
+    let turned = of_lits(alloc, same_pairs(alloc, 4, 3)?)?;
+    Ok(alike.node.goal().pure_pre.len() == 0 && turned.node.goal().pure_pre.len() == 1)
+}
+
+/// Addresses without a base add their literals after those of all bases.
+fn numbers_come_after_bases(alloc: Global) -> Result<bool, Refused<TooLarge>> {
+    let pre = cells(alloc, (plain(0), plain(7)), (bare(3), plain(7)))?;
+    let normal = of_heaps(alloc, pre, Heap::new(none(alloc)))?;
+    Ok(has_lits(&normal, &two(alloc, positive(bare(0)), positive(plain(0)))?))
+}
+/// Maps from one integer to the variable 7, and from one set to that with the variable 6.
+fn two_images(alloc: Global) -> Result<Subst, NoMemory> {
+    let set = Var {
+        sort: Sort::Set,
+        number: 0,
+    };
+    let to = SetTerm::new(none(alloc), one(alloc, bare(6))?);
+    Ok(Subst {
+        ints: one(
+            alloc,
+            IntBind {
+                var: int(0),
+                to: bare(7),
+            },
+        )?,
+        sets: one(alloc, SetBind { var: set, to })?,
+    })
+}
+
+/// Integer entries of a map are walked before set entries.
+fn integer_images_come_first(alloc: Global) -> Result<bool, Refused<TooLarge>> {
+    let above = companion(alloc, none(alloc), two_images(alloc)?, none(alloc))?;
+    let own = two(alloc, bare(0), bare(1))?;
+    let tuple = two(alloc, bare(6), bare(7))?;
+    let below = companion(alloc, own, empty_map(alloc), tuple)?;
+    let preds = Shared::new(alloc, Preds::new(none(alloc)))?;
+    let goal = goal(alloc, none(alloc), none(alloc));
+    let normal = normal(alloc, Raw::new(preds, goal, two(alloc, above, below)?))?;
+    let expected = two(alloc, bare(1), bare(0))?;
+    match normal.node.links().as_slice() {
+        [_, last] => Ok(last.tuple == expected),
+        _ => Ok(false),
+    }
+}
+
+/// As many different literals on the first twelve variables.
+fn in_order(alloc: Global, count: usize) -> Result<List<Lit>, NoMemory> {
+    let mut lits = none(alloc);
+    for first in 0..12 {
+        for second in first + 1..12 {
+            if lits.len() < count {
+                lits.push(alloc, Lit::Lt(bare(first), bare(second)))?;
+            }
+        }
+    }
+    Ok(lits)
+}
+
+/// With these chunks: twelve program variables, 74 literals, and a companion whose map has one entry.
+fn below_an_entry(alloc: Global, pre: Heap) -> Result<Renamed, Refused<TooLarge>>
+    requires { insts pre.chunks ≡ [] }
+{
+    let mut goal = goal(alloc, ints(alloc, 12)?, in_order(alloc, 34)?);
+    goal.pre = pre;
+    goal.pure_post = in_order(alloc, 40)?;
+    let map = Subst {
+        ints: one(
+            alloc,
+            IntBind {
+                var: int(0),
+                to: bare(7),
+            },
+        )?,
+        sets: none(alloc),
+    };
+    let links = one(alloc, companion(alloc, none(alloc), map, none(alloc))?)?;
+    let preds = Shared::new(alloc, Preds::new(none(alloc)))?;
+    normal(alloc, Raw::new(preds, goal, links))
+}
+
+/// An entry for an integer has two units. A block, with the literal that its address is positive, adds
+/// five to 236.
+fn entries_have_two_units(alloc: Global) -> Result<bool, NoMemory> {
+    let fits = below_an_entry(alloc, Heap::new(none(alloc)));
+    let block = one(alloc, Chunk::Block(BlockAt::new(bare(0), 1)))?;
+    let passes = below_an_entry(alloc, Heap::new(block));
+    Ok(fits.is_ok() && matches!(passes, Err(Refused::Named(TooLarge))))
+}
+
+#[test]
+fn settled_points_of_the_normal_form_hold(rt: HostRuntime) -> Result<(), Fail> {
+    let alloc = rt.alloc();
+    assert!(rt; solved_term_counts(alloc)?);
+    assert!(rt; each_substitution_counts(alloc)?);
+    assert!(rt; unions_go_by_order(alloc)?);
+    assert!(rt; numbers_come_after_bases(alloc)?);
+    assert!(rt; integer_images_come_first(alloc)?);
+    assert!(rt; entries_have_two_units(alloc)?);
     Ok(())
 }
 
