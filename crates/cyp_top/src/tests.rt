@@ -119,6 +119,11 @@ const ROWS: &[(&[u8], &[u8], Status)] = &[
         b"void f() {\n}\n",
         Status::Program,
     ),
+    (
+        b"void f(loc x) { x :-> 007 } { x :-> 7 }",
+        b"void f(v1) {\n}\n",
+        Status::Program,
+    ),
     // A guard isn't among the eight literals of a clause.
     (
         b"predicate p(int n) { | n == 0 => { n < 1 && n < 2 && n < 3 && n < 4 && n < 5 && n < 6 && n < 7 && n < 8 ; emp } } void f() { emp } { emp }",
@@ -165,6 +170,28 @@ const ROWS: &[(&[u8], &[u8], Status)] = &[
         b"void f(loc x) { x <=in1 ; emp } { emp }",
         b"no program\n",
         Status::NoProgram,
+    ),
+    // An offset that is solved for counts, up to 2^32.
+    (
+        b"void f(int a) { b == a + 2147483648 && c == b + 2147483648 ; emp } { emp }",
+        b"no program\n",
+        Status::NoProgram,
+    ),
+    (
+        b"void f(int a) { b == a + 2147483648 && c == b + 2147483648 && d == c + 1 ; emp } { emp }",
+        b"refused: TooLarge at 5\n",
+        Status::Refused,
+    ),
+    // Of integers a goal has at most 64, its cardinalities not among them.
+    (
+        b"predicate p() { | 0 == 0 => { emp } } void f() { aa < ab && ac < ad && ae < af && ag < ah && ai < aj && ak < al && am < an && ao < ap && ba < bb && bc < bd && be < bf && bg < bh && bi < bj && bk < bl && bm < bn && bo < bp && ca < cb && cc < cd && ce < cf && cg < ch && ci < cj && ck < cl && cm < cn && co < cp && da < db && dc < dd && de < df && dg < dh && di < dj && dk < dl && dm < dn && xdo < dp ; p() } { emp }",
+        b"no program\n",
+        Status::NoProgram,
+    ),
+    (
+        b"predicate p() { | 0 == 0 => { emp } } void f() { aa < ab && ac < ad && ae < af && ag < ah && ai < aj && ak < al && am < an && ao < ap && ba < bb && bc < bd && be < bf && bg < bh && bi < bj && bk < bl && bm < bn && bo < bp && ca < cb && cc < cd && ce < cf && cg < ch && ci < cj && ck < cl && cm < cn && co < cp && da < db && dc < dd && de < df && dg < dh && di < dj && dk < dl && dm < dn && xdo < dp && more < 0 ; p() } { emp }",
+        b"refused: TooLarge at 43\n",
+        Status::Refused,
     ),
     // Bytes and numbers that are refused.
     (b"", b"refused: MissingProcedure at 0\n", Status::Refused),
