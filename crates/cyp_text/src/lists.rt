@@ -1,5 +1,5 @@
 ghost use Rattle.cyp_grammar.specs.declared.want.Want.{Want};
-ghost use Rattle.std.specs.Prelude.{List, ◌≡◌, Bool};
+ghost use Rattle.std.specs.Prelude.{List, [], ◌≡◌, Bool, IfOk};
 ghost use Rattle.cyp_grammar.specs.Lexemes.{Lexeme, Said};
 ghost use Rattle.cyp_grammar.specs.Readers.{Read, enclosed, heads, listing, is_sign, sign_token};
 ghost use Rattle.cyp_text.specs.ListReaders.{GivesMore, IsShorter, Refuses, behind, many, parts_list};
@@ -8,7 +8,7 @@ ghost use Rattle.cyp_text.specs.Parsing.{Gives};
 use crate::parser::Parser;
 use cyp_grammar::Want;
 use cyp_lex::Sign;
-use cyp_term::{Fail, List};
+use cyp_term::{Fail, List, NoMemory};
 use std::alloc::Global;
 
 /// A part of a text, of which lists are made that have a symbol between each two parts.
@@ -38,6 +38,13 @@ pub(crate) trait Item: Drop {
     fn read(alloc: Global, from: &mut Parser<'_>) -> Result<Self, Fail<Want>>
         ensures value { Gives reader from.old result from.new }
         ensures shorter { IsShorter result from.old from.new };
+}
+
+/// No items, with room for the one that most lists have.
+fn room_for_one<T>(alloc: Global) -> Result<List<T>, NoMemory>
+    ensures { IfOk result (λ xs. xs ≡ []) }
+{
+    Ok(List::from_vec(Vec::with_capacity(alloc, 1)?))
 }
 
 /// The list of the items, without room for more.
@@ -85,7 +92,7 @@ impl<'a> Parser<'a> {
         ensures { Gives (listing (is_sign separator) (sign_token separator) T.reader) self.old result self.new }
     {
         let first = T::read(alloc, self)?;
-        let others = self.more_parts(alloc, separator, List::from_vec(Vec::new(alloc)))?;
+        let others = self.more_parts(alloc, separator, room_for_one(alloc)?)?;
         Ok((first, others))
     }
 
@@ -98,7 +105,7 @@ impl<'a> Parser<'a> {
         ensures { Gives (parts_list separator T.reader) self.old result self.new }
     {
         let first = T::read(alloc, self)?;
-        let mut found = List::from_vec(Vec::new(alloc));
+        let mut found = room_for_one(alloc)?;
         found.push(alloc, first)?;
         self.more_parts(alloc, separator, found)
     }
@@ -124,7 +131,7 @@ impl<'a> Parser<'a> {
     pub(crate) fn items<T: Item>(&mut self, alloc: Global) -> Result<List<T>, Fail<Want>>
         ensures { Gives (many T.starts T.reader) self.old result self.new }
     {
-        let mut found = Vec::new(alloc);
+        let mut found = Vec::with_capacity(alloc, 1)?;
         'items: while T::is_next(self) {
             let item = T::read(alloc, self)?;
             found.push(item)?;

@@ -12,8 +12,8 @@ items-preserved g c =
 
 pub returns-in_err-item : goal.returns-in_err-item
 returns-in_err-item g c =
-    let is : c.from_residual.result ≡ Err c.in_err-item.field-0.0 = search rules in
-    stops_with (many g.T.Item.starts g.T.Item.reader) g.T.Item.reader c.args.self.now c.items.self c.read.new.from c.in_err-item.field-0.0 c.from_residual.result is c.in_err-item.ensures.value
+    let is : c.from_residual-in_err-item.result ≡ Err c.in_err-item.field-0.0 = search rules in
+    stops_with (many g.T.Item.starts g.T.Item.reader) g.T.Item.reader c.args.self.now c.items.self c.read.new.from c.in_err-item.field-0.0 c.from_residual-in_err-item.result is c.in_err-item.ensures.value
     (λ s e. loop_stops g.T.Item.starts g.T.Item.reader c.items.found.items c.items.self s (many g.T.Item.starts g.T.Item.reader c.args.self.now)
     (sym c.is_next.ensures ∙ c.items-test.true) c.items.invariant e)
 
