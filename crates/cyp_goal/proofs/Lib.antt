@@ -1,7 +1,6 @@
 pub mod Added
 pub mod AddressLits
 pub mod AllNew
-pub mod Differing
 pub mod DressedNormal
 pub mod EachVar
 mod Examples
@@ -51,6 +50,3 @@ pub mod Finished
 pub mod NumberedKeeps
 pub mod ReadyNodes
 pub mod RenumberAll
-pub mod FirstOnes
-pub mod KeptLits
-pub mod SameLits

@@ -13,7 +13,6 @@ pub mod Dressed
 pub mod Raw
 pub mod Laws
 pub mod Renamed
-pub mod Repeats
 pub mod RenamingLaw
 pub mod Turns
 pub mod VarTables

@@ -13,7 +13,6 @@ mod numbering;
 mod occurs;
 mod once;
 mod pruning;
-mod repeats;
 mod solving;
 mod substitution;
 mod tidying;

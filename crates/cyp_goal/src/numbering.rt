@@ -13,10 +13,10 @@ ghost use Rattle.cyp_term.specs.declared.term.Var.{Var as TheVar};
 
 use crate::draft::Draft;
 use crate::occurs::add_all;
-use crate::once::{add_term, add_var};
+use crate::once::add_var;
 use crate::var_table::VarTable;
 use cyp_heap::{Arg, CellAt, Chunk, Goal, Heap, InstOf, Link};
-use cyp_term::{IntBind, List, Lit, NoMemory, SetBind, SetTerm, Sort, Subst, Term, Var};
+use cyp_term::{IntBind, List, Lit, NoMemory, SetBind, SetTerm, Sort, Subst, Term, Var, each_once};
 use std::alloc::Global;
 
 /// What is numbered anew. Each variable in it has the sort of its place.
@@ -114,11 +114,8 @@ fn renamed_elems(alloc: Global, elems: &[Term], names: &VarTable) -> Result<List
     ensures elems { IfOk result (λ ts. ts ≡ without_repeats term_eq (map (apply_term (numbering names.now)) elems.now)) }
     ensures sorted { OnOk result (list_all (term_fits no_set) elems.now ≡ true) }
 {
-    let mut renamed = Vec::with_capacity(alloc, elems.len())?;
-    for elem in elems {
-        add_term(&mut renamed, renamed_term(*elem, names))?;
-    }
-    Ok(List::from_vec(renamed))
+    let renamed = renamed_items(alloc, elems, names)?;
+    each_once(alloc, renamed)
 }
 
 impl Rename for SetTerm {

@@ -28,7 +28,7 @@ fn same_term(a: Term, b: Term) -> bool
     a.base() == b.base() && a.offset() == b.offset()
 }
 
-pub(crate) fn is_term_among(term: Term, terms: &[Term]) -> bool
+fn is_term_among(term: Term, terms: &[Term]) -> bool
     ensures { result ≡ list_any (term_eq term) terms.now }
 {
     terms.iter().any(|other| same_term(term, *other))

@@ -7,9 +7,8 @@ ghost use Rattle.cyp_term.specs.Images.{image_elems, image_vars};
 ghost use Rattle.cyp_term.specs.Terms.{apply_lit, apply_set, apply_term, term_eq, var_eq, wide_lit, wide_set, wide_term, without_repeats};
 ghost use Rattle.cyp_term.specs.declared.subst.Subst.{Subst as TheSubst};
 
-use crate::once::{is_among, is_term_among};
 use cyp_heap::{Arg, Chunk, Goal, Heap, Link};
-use cyp_term::{Fail, IntBind, List, Lit, SetBind, SetTerm, Subst, Term, TooWide, Var};
+use cyp_term::{Fail, IntBind, List, Lit, SetBind, SetTerm, Subst, Term, TooWide, Var, few_differ};
 use std::alloc::Global;
 
 /// What a substitution applies to.
@@ -92,23 +91,13 @@ fn unbound(vars: &[Var], by: &Subst) -> bool
 fn differ_vars(vars: &[Var]) -> bool
     ensures { result ≡ true → without_repeats var_eq vars.now ≡ vars.now }
 {
-    for k in 0..vars.len() {
-        if is_among(vars[k], &vars[..k]) {
-            return false;
-        }
-    }
-    true
+    few_differ(vars)
 }
 
 fn differ_terms(terms: &[Term]) -> bool
     ensures { result ≡ true → without_repeats term_eq terms.now ≡ terms.now }
 {
-    for k in 0..terms.len() {
-        if is_term_among(terms[k], &terms[..k]) {
-            return false;
-        }
-    }
-    true
+    few_differ(terms)
 }
 
 impl Apply for SetTerm {

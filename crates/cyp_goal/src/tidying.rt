@@ -2,13 +2,12 @@ ghost use Rattle.std.specs.Prelude.{◌≡◌, ◌↔◌, IfOk, IsTrue, not};
 ghost use Rattle.std.specs.List.{filter};
 ghost use Rattle.cyp_goal.specs.Normal.{tidy_node};
 ghost use Rattle.cyp_goal.specs.Tidying.{is_plainly_true};
-ghost use Rattle.cyp_term.specs.Terms.{set_eq};
+ghost use Rattle.cyp_term.specs.Terms.{lit_eq, set_eq, without_repeats};
 
 use crate::addresses::add_addresses;
 use crate::draft::Draft;
-use crate::repeats::each_once;
 use cyp_heap::Goal;
-use cyp_term::{Exact, List, Lit, NoMemory, SetTerm};
+use cyp_term::{Exact, List, Lit, NoMemory, SetTerm, each_once};
 use std::alloc::Global;
 
 fn same<T: Exact>(a: &T, b: &T) -> bool
@@ -45,6 +44,13 @@ fn telling(lits: List<Lit>) -> Vec<Lit>
     lits
 }
 
+/// Each literal once, where it stands first.
+fn each_lit_once(alloc: Global, lits: Vec<Lit>) -> Result<List<Lit>, NoMemory>
+    ensures { IfOk result (λ ls. ls ≡ without_repeats lit_eq lits.items) }
+{
+    each_once(alloc, List::from_vec(lits))
+}
+
 /// Both pure parts without literals that tell nothing, and that the addresses of the pre are
 /// positive.
 #[tactic(auto, using(crate::proofs::AddressLits::tidied))]
@@ -62,8 +68,8 @@ pub(crate) fn tidy(alloc: Global, draft: Draft) -> Result<Draft, NoMemory>
     } = goal;
     let mut before = telling(pure_pre);
     add_addresses(alloc, &mut before, pre.chunks())?;
-    let pure_pre = each_once(alloc, before)?;
-    let pure_post = each_once(alloc, telling(pure_post))?;
+    let pure_pre = each_lit_once(alloc, before)?;
+    let pure_post = each_lit_once(alloc, telling(pure_post))?;
     let goal = Goal {
         program,
         exist,

@@ -4,6 +4,8 @@ pub mod Equality
 pub mod Lists
 pub mod Cases
 pub mod Repeats
+pub mod FirstOnes
+pub mod KeptItems
 pub mod Sets
 pub mod Literals
 pub mod Parts

@@ -1,6 +1,7 @@
 -- A turn of a loop that adds what each item of a list brings.
 use Rattle.std.proofs.Common.{◌≡◌, ◌∙◌, ◌<◌, ℕ, ◌+◌, List, ◌∷◌, ◌++◌, Bool, false, ◌||◌, ap, drop, get_or, length, sym}
 use Rattle.std.specs.List.{list_any}
+use Rattle.std.proofs.lemmas.List.{append_assoc}
 use Rattle.std.proofs.lemmas.List.Folds.{list_any-append}
 use Rattle.std.proofs.Math.Numerals.{add-one}
 use Rattle.std.proofs.Math.Seq.{drop-cons}
@@ -22,6 +23,12 @@ module _ {V X : Type 0} (part : V → List X) (all : List V → List X) (parts :
       let rest : List X = all (drop (i + 1) vs) in
       ap (λ (us : List X). with_all_new eq us rest) added ∙ sym (with_all_new_append eq old (part (get_or vs i d)) rest)
       ∙ sym (ap (λ (us : List X). with_all_new eq old us) (all_here vs i d lt)) ∙ h
+
+  -- what the item brings is put behind, and what those behind it bring is left
+  pub appended_turn : (vs : List V) (i : ℕ) (d : V) (old new whole : List X) → i < length vs → new ≡ old ++ part (get_or vs i d) → old ++ all (drop i vs) ≡ whole → new ++ all (drop (i + 1) vs) ≡ whole
+  appended_turn vs i d old new whole lt added h =
+      let rest : List X = all (drop (i + 1) vs) in
+      ap (λ (us : List X). us ++ rest) added ∙ append_assoc old (part (get_or vs i d)) rest ∙ sym (ap (λ (us : List X). old ++ us) (all_here vs i d lt)) ∙ h
 
   -- nothing that the item brings passes the test
   pub untold_turn : (test : X → Bool) (vs : List V) (i : ℕ) (d : V) (whole : Bool) → i < length vs → list_any test (part (get_or vs i d)) ≡ false

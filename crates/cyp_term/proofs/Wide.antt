@@ -1,28 +1,21 @@
 -- When a set term has an element past the range after a substitution.
-use Rattle.std.proofs.Common.{◌≡◌, ◌∙◌, ◌<◌, ◌≤◌, ℕ, ◌+◌, List, [], ◌∷◌, ◌++◌, Bool, true, false, ◌||◌, ap, drop, get_or, length, map, sym}
+use Rattle.std.proofs.Common.{◌≡◌, ◌∙◌, ◌<◌, ◌≤◌, ℕ, ◌+◌, List, ◌∷◌, ◌++◌, Bool, true, false, ◌||◌, ap, drop, get_or, length, map, sym}
 use Rattle.std.specs.List.{list_any}
-use Rattle.std.proofs.lemmas.List.{at_drop_all}
+use Rattle.std.proofs.lemmas.List.{append-nil, at_drop_all}
 use Rattle.std.proofs.lemmas.List.Folds.{list_any-append}
 use Rattle.cyp_term.specs.declared.lit.SetTerm.{SetTerm}
 use Rattle.cyp_term.specs.declared.subst.Subst.{Subst}
 use Rattle.cyp_term.specs.declared.term.Term.{Term}
-use Rattle.cyp_term.specs.Images.{image_elems}
-use Rattle.cyp_term.specs.Terms.{apply_set, apply_term, term_eq, wide_set, wide_term, with_all_new, without_repeats}
+use Rattle.cyp_term.specs.Images.{brought, image_elems}
+use Rattle.cyp_term.specs.Terms.{apply_set, apply_term, term_eq, wide_set, wide_term}
 use Rattle.cyp_term.proofs.Equality.{Decides-term_eq}
-use Rattle.cyp_term.proofs.Repeats.{any_without_repeats, with_all_new_append}
+use Rattle.cyp_term.proofs.Repeats.{any_without_repeats}
 use Rattle.cyp_term.proofs.Turns.{drop_here}
-
--- all that the substitution brings, with repeats
-abbrev pub brought : Subst → SetTerm → List Term
-brought by u = image_elems by u.vars ++ map (apply_term by) u.elems
 
 module _ (by : Subst) (u : SetTerm) (own : List Term) where
   -- the images' elements are there, and the images of the set term's own are left
-  pub own_left : (made : List Term) → made ≡ without_repeats term_eq (image_elems by u.vars) → own ≡ u.elems → with_all_new term_eq made (map (apply_term by) own) ≡ without_repeats term_eq (brought by u)
-  own_left made e p =
-      let images : List Term = image_elems by u.vars in
-      ap (λ (us : List Term). with_all_new term_eq us (map (apply_term by) own)) e ∙ ap (λ (es : List Term). with_all_new term_eq (without_repeats term_eq images) (map (apply_term by) es)) p
-      ∙ sym (with_all_new_append term_eq [] images (map (apply_term by) u.elems))
+  pub own_left : (made : List Term) → made ≡ image_elems by u.vars → own ≡ u.elems → made ++ map (apply_term by) own ≡ brought by u
+  own_left made e p = ap (λ (us : List Term). us ++ map (apply_term by) own) e ∙ ap (λ (es : List Term). image_elems by u.vars ++ map (apply_term by) es) p
 
   -- the images' elements are in range
   pub narrow_images : list_any wide_term (image_elems by u.vars) ≡ false → own ≡ u.elems → list_any wide_term (brought by u) ≡ list_any wide_term (map (apply_term by) own)
@@ -46,5 +39,5 @@ module _ (by : Subst) (u : SetTerm) (own : List Term) where
   none_wide i le h = wide_brought ∙ h ∙ at_drop_all (λ (es : List Term). list_any wide_term (map (apply_term by) es)) own i le
 
   -- none is left to be added
-  pub none_left : (i : ℕ) → length own ≤ i → (made whole : List Term) → with_all_new term_eq made (map (apply_term by) (drop i own)) ≡ whole → made ≡ whole
-  none_left i le made whole h = sym (at_drop_all (λ (es : List Term). with_all_new term_eq made (map (apply_term by) es)) own i le) ∙ h
+  pub none_left : (i : ℕ) → length own ≤ i → (made whole : List Term) → made ++ map (apply_term by) (drop i own) ≡ whole → made ≡ whole
+  none_left i le made whole h = sym (append-nil made) ∙ sym (at_drop_all (λ (es : List Term). made ++ map (apply_term by) es) own i le) ∙ h

@@ -6,6 +6,7 @@ pub mod ExactLits
 pub mod Images
 pub mod Integers
 pub mod Meaning
+pub mod Once
 pub mod Regions
 pub mod Room
 pub mod SetTermValue

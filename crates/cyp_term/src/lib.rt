@@ -15,6 +15,7 @@ mod subst;
 mod term;
 #[cfg(test)]
 mod tests;
+mod without_repeats;
 
 pub use copied::{Copied, Exact};
 pub use fail::{Fail, NoMemory};
@@ -28,3 +29,4 @@ pub use shared::Shared;
 pub use steps::Steps;
 pub use subst::{IntBind, SetBind, Subst};
 pub use term::{Sort, Term, TooWide, Var};
+pub use without_repeats::{each_once, few_differ};

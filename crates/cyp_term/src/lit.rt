@@ -1,8 +1,8 @@
-ghost use Rattle.std.specs.Prelude.{◌≡◌, IfOk, OnOk, false};
+ghost use Rattle.std.specs.Prelude.{[], ◌≡◌, ◌++◌, ◌∷◌, IfOk, OnOk, false};
 ghost use Rattle.std.specs.List.{list_any};
 ghost use Rattle.cyp_term.specs.Answers.{GivesUnless};
-ghost use Rattle.cyp_term.specs.Images.{image_elems, image_of, image_vars};
-ghost use Rattle.cyp_term.specs.Terms.{apply_lit, apply_set, negated, term_eq, var_eq, wide_lit, wide_set, wide_term, with_all_new, without_repeats};
+ghost use Rattle.cyp_term.specs.Images.{brought, image_elems, image_of, image_vars};
+ghost use Rattle.cyp_term.specs.Terms.{apply_lit, apply_set, negated, var_eq, wide_lit, wide_set, wide_term, with_all_new, without_repeats};
 ghost use Rattle.cyp_term.specs.declared.term.Sort.TheVariants.{Set};
 ghost use Rattle.cyp_term.specs.SetTermValue.{AllSets};
 ghost use Rattle.cyp_term.specs.Under.{IsOpposite, MembersUnder, TruthUnder};
@@ -10,9 +10,10 @@ ghost use Rattle.cyp_term.specs.Under.{IsOpposite, MembersUnder, TruthUnder};
 use crate::copied::{Copied, Exact};
 use crate::fail::{Fail, NoMemory};
 use crate::list::List;
-use crate::once::{add_term, add_terms, add_var, add_vars};
+use crate::once::{add_var, add_vars};
 use crate::subst::Subst;
 use crate::term::{Term, TooWide, Var};
+use crate::without_repeats::each_once;
 use std::alloc::Global;
 use std::marker::Model;
 
@@ -72,6 +73,27 @@ impl SetTerm {
     }
 }
 
+/// Adds a term. It is in range, as each term is.
+fn add_term(terms: &mut Vec<Term>, term: Term) -> Result<(), NoMemory>
+    ensures items { OnOk result (terms.new.items ≡ terms.old.items ++ term ∷ []) }
+    ensures narrow { wide_term term ≡ false }
+{
+    let _offset = term.offset();
+    terms.push(term)?;
+    Ok(())
+}
+
+/// Adds the terms. Each is in range.
+fn add_terms(terms: &mut Vec<Term>, more: &[Term]) -> Result<(), NoMemory>
+    ensures items { OnOk result (terms.new.items ≡ terms.old.items ++ more.now) }
+    ensures narrow { OnOk result (list_any wide_term more.now ≡ false) }
+{
+    for term in more {
+        add_term(terms, *term)?;
+    }
+    Ok(())
+}
+
 /// Adds what the set variable's image brings, or the variable itself where it is unbound.
 #[tactic(auto, using(crate::proofs::Images::AllSets_with_new, crate::proofs::Images::AllSets_with_all_new))]
 fn add_image_vars(vars: &mut Vec<Var>, var: Var, by: &Subst) -> Result<(), NoMemory>
@@ -87,7 +109,7 @@ fn add_image_vars(vars: &mut Vec<Var>, var: Var, by: &Subst) -> Result<(), NoMem
 
 /// Adds the elements of the set variable's image. Each is in range.
 fn add_image_elems(elems: &mut Vec<Term>, var: Var, by: &Subst) -> Result<(), NoMemory>
-    ensures elems { OnOk result (elems.new.items ≡ with_all_new term_eq elems.old.items (image_of by.now var).elems) }
+    ensures elems { OnOk result (elems.new.items ≡ elems.old.items ++ (image_of by.now var).elems) }
     ensures narrow { OnOk result (list_any wide_term (image_of by.now var).elems ≡ false) }
 {
     match by.set_image(var) {
@@ -109,9 +131,8 @@ impl SetTerm {
         Ok(List::from_vec(vars))
     }
 
-    #[tactic(auto, using(crate::proofs::Repeats::with_all_new_append))]
     fn image_elems(&self, alloc: Global, by: &Subst) -> Result<Vec<Term>, NoMemory>
-        ensures elems { IfOk result (λ es. es.items ≡ without_repeats term_eq (image_elems by.now self.now.vars)) }
+        ensures elems { IfOk result (λ es. es.items ≡ image_elems by.now self.now.vars) }
         ensures narrow { OnOk result (list_any wide_term (image_elems by.now self.now.vars) ≡ false) }
     {
         let mut elems = Vec::new(alloc);
@@ -121,15 +142,22 @@ impl SetTerm {
         Ok(elems)
     }
 
-    #[tactic(auto, using(crate::proofs::Repeats::with_all_new_append))]
-    fn applied_elems(&self, alloc: Global, by: &Subst) -> Result<List<Term>, Fail<TooWide>>
-        ensures { GivesUnless (wide_set (apply_set by.now self.now)) (apply_set by.now self.now).elems result }
+    /// What the images bring, with repeats.
+    fn brought(&self, alloc: Global, by: &Subst) -> Result<List<Term>, Fail<TooWide>>
+        ensures { GivesUnless (wide_set (apply_set by.now self.now)) (brought by.now self.now) result }
     {
         let mut elems = self.image_elems(alloc, by)?;
         for elem in self.elems.as_slice() {
-            add_term(&mut elems, elem.apply(by)?)?;
+            elems.push(elem.apply(by)?)?;
         }
         Ok(List::from_vec(elems))
+    }
+
+    fn applied_elems(&self, alloc: Global, by: &Subst) -> Result<List<Term>, Fail<TooWide>>
+        ensures { GivesUnless (wide_set (apply_set by.now self.now)) (apply_set by.now self.now).elems result }
+    {
+        let elems = self.brought(alloc, by)?;
+        Ok(each_once(alloc, elems)?)
     }
 }
 

@@ -1,10 +1,9 @@
 ghost use Rattle.std.specs.Prelude.{◌≡◌, IfOk, false};
 ghost use Rattle.std.specs.Prelude.{negsuc, pos, ◌^◌, ◌-◌, ◌≤ℤ◌};
-ghost use Rattle.std.specs.List.{list_any};
 ghost use Rattle.cyp_term.specs.declared.fail.Fail.TheVariants.{Named};
 ghost use Rattle.cyp_term.specs.Answers.{AnswersUnless};
 ghost use Rattle.cyp_term.specs.TermValue.{IsBase, IsTerm};
-ghost use Rattle.cyp_term.specs.Terms.{apply_term, plus, term_eq, wide_term};
+ghost use Rattle.cyp_term.specs.Terms.{apply_term, plus, wide_term};
 ghost use Rattle.cyp_term.specs.Under.{ValueUnder};
 
 use crate::copied::{Copied, Exact};
@@ -114,19 +113,6 @@ impl Term {
             base: self.base,
             offset,
         })
-    }
-}
-
-impl Term {
-    /// Whether the term is one of these.
-    pub(crate) fn is_among(self, terms: &[Term]) -> bool
-        ensures among { result ≡ list_any (term_eq self) terms.now }
-        ensures narrow { wide_term self ≡ false }
-    {
-        let Term { base, offset } = self;
-        terms
-            .iter()
-            .any(|other| base == other.base && offset == other.offset)
     }
 }
 

@@ -195,6 +195,29 @@ fn puts_each_part_of_a_union_once(rt: HostRuntime) -> Result<(), Fail> {
     Ok(())
 }
 
+/// With more elements than are compared with each other.
+#[test]
+fn puts_each_of_many_elements_once(rt: HostRuntime) -> Result<(), Fail> {
+    let alloc = rt.alloc();
+    let by = ints(alloc, &[IntBind { var: X, to: y(1) }])?;
+    let many = [
+        x(0),
+        y(1),
+        x(1),
+        y(2),
+        x(2),
+        y(4),
+        x(3),
+        number(4),
+        y(0),
+        number(4),
+    ];
+    let once = [y(1), y(2), y(3), y(4), number(4), y(0)];
+    let union = elements(alloc, &many)?;
+    assert_eq!(rt; union.apply(alloc, &by)?, elements(alloc, &once)?);
+    Ok(())
+}
+
 /// The images' elements stand before the union's own, and an unbound variable in its place.
 #[test]
 fn puts_what_images_bring_first(rt: HostRuntime) -> Result<(), Fail> {

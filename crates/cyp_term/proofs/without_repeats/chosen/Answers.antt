@@ -1,7 +1,7 @@
 use Rattle.std.proofs.Common.{◌≡◌, ◌∙◌, arith, drop, length}
 use Rattle.std.specs.Vec.Iter.{into_iter_items}
-use Rattle.cyp_goal.proofs.FirstOnes.{all_chosen}
-use Rattle.cyp_goal.proofs.repeats.chosen.Goals as goal
+use Rattle.cyp_term.proofs.FirstOnes.{all_chosen}
+use Rattle.cyp_term.proofs.without_repeats.chosen.Goals as goal
 
 pub returns : goal.returns
 returns g c =

@@ -1,7 +1,7 @@
 use Rattle.std.proofs.Common.{◌≡◌, ◌++◌, ◌+◌, ◌≤◌, drop, length}
 use Rattle.std.specs.List.{items_where_true}
 use Rattle.std.specs.Vec.Iter.{into_iter_items}
-use Rattle.cyp_goal.proofs.repeats.chosen.Given as goal
+use Rattle.cyp_term.proofs.without_repeats.chosen.Given as goal
 
 abbrev pub invariant-loop-item : goal.invariant-loop-item
 invariant-loop-item g l = record {
