@@ -50,3 +50,4 @@ pub mod Finished
 pub mod NumberedKeeps
 pub mod ReadyNodes
 pub mod RenumberAll
+pub mod KnownVars

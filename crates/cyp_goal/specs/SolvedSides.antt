@@ -1,5 +1,5 @@
 -- Sides of equations that are solved.
-use Rattle.std.specs.Prelude.{[], ◌&&◌, ◌<◌, ◌≡◌, ◌∷◌, Bool, Err, IfSome, IsTrue, List, MatchOption, None, Ok, Option, Result, Some, false, is_some, length, neg_ℤ, not, option_map, remove, slice_get, true, ℕ}
+use Rattle.std.specs.Prelude.{[], ◌<◌, ◌≡◌, ◌∷◌, Bool, Err, IfSome, IsTrue, List, MatchOption, None, Ok, Option, Result, Some, false, is_some, length, neg_ℤ, not, option_map, remove, slice_get, true, ℕ}
 use Rattle.cyp_goal.specs.Solving.{bind_int, bind_set, first_solved, solved_any, solved_eq, wide_subst}
 use Rattle.cyp_goal.specs.declared.equations.Side.{Side}
 use Rattle.cyp_goal.specs.declared.equations.Side.TheVariants.{Left, Right}
@@ -17,12 +17,12 @@ use Rattle.cyp_term.specs.declared.term.Var.{Var}
 
 -- the variable is one that equations are solved for
 abbrev pub may_solve : Unknowns → Var → Bool
-may_solve (Logical program exist) v = not (var_in v program.now) && not (var_in v exist.now)
+may_solve (Logical known) v = not (var_in v known.now)
 may_solve (Existential exist) v = var_in v exist.now
 
 -- what a literal gives: for logical variables only equations of integers are solved
 abbrev pub solves : Unknowns → Lit → Option Subst
-solves (Logical program exist) l = solved_eq (may_solve (Logical program exist)) l
+solves (Logical known) l = solved_eq (may_solve (Logical known)) l
 solves (Existential exist) l = solved_any (may_solve (Existential exist)) l
 
 -- the equation s = t of integers solved for the base of s, whichever that is

@@ -1,6 +1,7 @@
-ghost use Rattle.std.specs.Prelude.{◌≡◌, false};
+ghost use Rattle.std.specs.Prelude.{◌≡◌, IfOk, false};
 ghost use Rattle.cyp_goal.specs.Failures.{Larger};
 ghost use Rattle.cyp_goal.specs.Solving.{substitute, wide_subst};
+ghost use Rattle.cyp_goal.specs.Turns.{SameNames};
 ghost use Rattle.cyp_term.specs.Answers.{GivesWhere};
 
 use crate::substitution::{apply_goal, apply_links};
@@ -48,7 +49,8 @@ impl Draft {
     /// size.
     pub(crate) fn substituted(self, alloc: Global, by: &Subst) -> Result<Draft, Fail<TooLarge>>
         requires { wide_subst by.now ≡ false }
-        ensures { GivesWhere (substitute by.now self) result }
+        ensures gives { GivesWhere (substitute by.now self) result }
+        ensures names { IfOk result (λ d. SameNames self d) }
     {
         let Draft { preds, goal, links } = self;
         let goal = apply_goal(alloc, goal, by).map_err(too_large)?;

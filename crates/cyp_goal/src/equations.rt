@@ -6,16 +6,17 @@ ghost use Rattle.cyp_term.specs.declared.lit.Lit.TheVariants.{Eq, Same};
 
 use crate::draft::TooLarge;
 use crate::once::is_among;
+use crate::var_table::VarTable;
 use cyp_term::{Fail, IntBind, List, Lit, NoMemory, SetBind, SetTerm, Sort, Subst, Term, Var};
 use std::alloc::Global;
 
 /// The variables that equations are solved for.
 #[derive(Clone, Copy)]
 pub(crate) enum Unknowns<'a> {
-    /// All variables but these program variables and these existentials.
-    Logical(&'a [Var], &'a [Var]),
+    /// All variables but these, the program variables and the existentials.
+    Logical(&'a VarTable),
     /// These existentials.
-    Existential(&'a [Var]),
+    Existential(&'a VarTable),
 }
 
 /// The side of an equation that is solved.
@@ -30,10 +31,8 @@ impl Unknowns<'_> {
         ensures { result ≡ may_solve self.now var }
     {
         match self {
-            Unknowns::Logical(program, exist) => {
-                !is_among(var, program) && !is_among(var, exist)
-            }
-            Unknowns::Existential(exist) => is_among(var, exist),
+            Unknowns::Logical(known) => !known.has(var),
+            Unknowns::Existential(exist) => exist.has(var),
         }
     }
 
@@ -89,6 +88,7 @@ impl Unknowns<'_> {
             _ => None,
         }
     }
+
     /// The place of the first literal that is solved, and the side.
     pub(crate) fn first(&self, lits: &[Lit]) -> Option<(usize, Side)>
         ensures { FirstBy (solves self.now) lits.now result }

@@ -1,30 +1,47 @@
-ghost use Rattle.std.specs.Prelude.{length};
+ghost use Rattle.std.specs.Prelude.{[], ◌≡◌, ◌++◌, IfOk, length};
 ghost use Rattle.cyp_goal.specs.Normal.{solve};
 ghost use Rattle.cyp_goal.specs.SolvedSides.{FirstBy, IsFirst};
 ghost use Rattle.cyp_goal.specs.Solving.{is_logical, solve_post, solve_pre, solved_any, solved_eq};
-ghost use Rattle.cyp_goal.specs.Turns.{Turned};
+ghost use Rattle.cyp_goal.specs.Turns.{HasVars, SameNames, Turned};
 ghost use Rattle.cyp_term.specs.Answers.{GivesWhere};
 ghost use Rattle.cyp_term.specs.Terms.{var_in};
 
 use crate::draft::{Draft, TooLarge};
 use crate::equations::{Side, Unknowns, solve_for};
+use crate::occurs::add_all;
+use crate::var_table::VarTable;
 use cyp_term::Fail;
 use std::alloc::Global;
 
-fn first_in_pre(draft: &Draft) -> Option<(usize, Side)>
-    ensures { FirstBy (solved_eq (is_logical draft.now.goal)) draft.now.goal.pure_pre result }
+/// The program variables and the existentials are put into an empty table.
+fn add_known(draft: &Draft, known: &mut VarTable)
+    requires { known.old ≡ [] }
+    ensures { HasVars known.new (draft.now.goal.program ++ draft.now.goal.exist) }
 {
-    let goal = &draft.goal;
-    let unknowns = Unknowns::Logical(goal.program.as_slice(), goal.exist.as_slice());
-    unknowns.first(goal.pure_pre.as_slice())
+    add_all(draft.goal.program.as_slice(), known);
+    add_all(draft.goal.exist.as_slice(), known);
 }
 
-fn first_in_post(draft: &Draft) -> Option<(usize, Side)>
+/// The existentials are put into an empty table.
+fn add_exist(draft: &Draft, exist: &mut VarTable)
+    requires { exist.old ≡ [] }
+    ensures { HasVars exist.new draft.now.goal.exist }
+{
+    add_all(draft.goal.exist.as_slice(), exist);
+}
+
+fn first_in_pre(draft: &Draft, known: &VarTable) -> Option<(usize, Side)>
+    requires { HasVars known.now (draft.now.goal.program ++ draft.now.goal.exist) }
+    ensures { FirstBy (solved_eq (is_logical draft.now.goal)) draft.now.goal.pure_pre result }
+{
+    Unknowns::Logical(known).first(draft.goal.pure_pre.as_slice())
+}
+
+fn first_in_post(draft: &Draft, exist: &VarTable) -> Option<(usize, Side)>
+    requires { HasVars exist.now draft.now.goal.exist }
     ensures { FirstBy (solved_any (λ v. var_in v draft.now.goal.exist)) draft.now.goal.pure_post result }
 {
-    let goal = &draft.goal;
-    let unknowns = Unknowns::Existential(goal.exist.as_slice());
-    unknowns.first(goal.pure_post.as_slice())
+    Unknowns::Existential(exist).first(draft.goal.pure_post.as_slice())
 }
 
 fn turn_pre(
@@ -34,7 +51,8 @@ fn turn_pre(
     side: Side,
 ) -> Result<Draft, Fail<TooLarge>>
     requires { IsFirst (solved_eq (is_logical draft.goal)) draft.goal.pure_pre place side }
-    ensures { Turned solve_pre draft result }
+    ensures turned { Turned solve_pre draft result }
+    ensures names { IfOk result (λ d. SameNames draft d) }
 {
     let lit = draft.goal.pure_pre.remove(place);
     let by = solve_for(alloc, lit, side)?;
@@ -48,7 +66,8 @@ fn turn_post(
     side: Side,
 ) -> Result<Draft, Fail<TooLarge>>
     requires { IsFirst (solved_any (λ v. var_in v draft.goal.exist)) draft.goal.pure_post place side }
-    ensures { Turned solve_post draft result }
+    ensures turned { Turned solve_post draft result }
+    ensures names { IfOk result (λ d. SameNames draft d) }
 {
     let lit = draft.goal.pure_post.remove(place);
     let by = solve_for(alloc, lit, side)?;
@@ -58,8 +77,10 @@ fn turn_post(
 fn solve_pre(alloc: Global, mut draft: Draft) -> Result<Draft, Fail<TooLarge>>
     ensures { GivesWhere (solve_pre (length draft.goal.pure_pre) draft) result }
 {
+    let mut known = VarTable::new();
+    add_known(&draft, &mut known);
     for _turn in 0..draft.goal.pure_pre.len() {
-        let Some((place, side)) = first_in_pre(&draft) else {
+        let Some((place, side)) = first_in_pre(&draft, &known) else {
             return Ok(draft);
         };
         draft = turn_pre(alloc, draft, place, side)?;
@@ -70,8 +91,10 @@ fn solve_pre(alloc: Global, mut draft: Draft) -> Result<Draft, Fail<TooLarge>>
 fn solve_post(alloc: Global, mut draft: Draft) -> Result<Draft, Fail<TooLarge>>
     ensures { GivesWhere (solve_post (length draft.goal.pure_post) draft) result }
 {
+    let mut exist = VarTable::new();
+    add_exist(&draft, &mut exist);
     for _turn in 0..draft.goal.pure_post.len() {
-        let Some((place, side)) = first_in_post(&draft) else {
+        let Some((place, side)) = first_in_post(&draft, &exist) else {
             return Ok(draft);
         };
         draft = turn_post(alloc, draft, place, side)?;

@@ -1,5 +1,5 @@
 -- Tokens parted at a place, and the lexemes of the parts.
-use Rattle.std.proofs.Common.{List, [], ap, arith, drop, get_or, length, length-drop, map, refl, suc, sym, take, ℕ, ◌+◌, ◌++◌, ◌-◌, ◌<◌, ◌≤◌, ◌∙◌, ◌∷◌, ◌≡◌}
+use Rattle.std.proofs.Common.{List, [], ap, arith, drop, get_or, length, length-drop, map, refl, suc, sym, take, ℕ, ◌++◌, ◌-◌, ◌<◌, ◌≤◌, ◌∙◌, ◌∷◌, ◌≡◌}
 use Rattle.std.proofs.lemmas.List.{length-map, map-append, take-append-drop, take_all}
 use Rattle.std.proofs.Math.Seq.{drop-cons, take-suc}
 use Rattle.cyp_grammar.specs.Lexemes.{Lexeme, Said, lexeme_of}

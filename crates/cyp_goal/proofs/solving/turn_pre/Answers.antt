@@ -8,11 +8,11 @@ use Rattle.cyp_term.specs.Answers.{GivesWhere}
 use Rattle.cyp_term.specs.declared.lit.Lit.{Lit}
 use Rattle.cyp_goal.proofs.solving.turn_pre.Goals as goal
 
-pub returns : goal.returns
-returns c =
+pub returns-clause-turned : goal.returns-clause-turned
+returns-clause-turned c =
     let s = c.draft.inside in
     let n : Node = record { preds = s.preds; goal = s.goal; links = s.links } in
     let is = subst (λ (m : Node). IsFirst (solved_eq (is_logical m.goal)) m.goal.pure_pre c.args.place c.args.side) (sym c.draft.view_is) c.requires in
     subst (λ (m : Node). Turned solve_pre m c.substituted.result) c.draft.view_is
     (turn_given solve_pre with_pre (solved_eq (is_logical n.goal)) n.goal.pure_pre n (λ k. refl) c.args.place c.args.side is c.remove-lit.result c.remove-lit.ensures.item c.in_ok-by.by c.in_ok-by.ensures.0
-    c.substituted.result (subst (λ (ls : List Lit). GivesWhere (substitute c.in_ok-by.by (with_pre n ls)) c.substituted.result) c.remove-lit.ensures.rest c.substituted.ensures))
+    c.substituted.result (subst (λ (ls : List Lit). GivesWhere (substitute c.in_ok-by.by (with_pre n ls)) c.substituted.result) c.remove-lit.ensures.rest c.substituted.ensures.gives))

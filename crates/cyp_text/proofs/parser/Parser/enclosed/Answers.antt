@@ -1,4 +1,4 @@
-use Rattle.std.proofs.Common.{Err, refl, rules, sym, ◌∙◌, ◌≡◌, false}
+use Rattle.std.proofs.Common.{Err, refl, rules, sym, ◌∙◌, ◌≡◌}
 use Rattle.cyp_grammar.specs.Readers.{enclosed, sign_token}
 use Rattle.cyp_lex.specs.declared.token.Sign.TheVariants.{Comma}
 use Rattle.cyp_text.specs.ListReaders.{parts_list}
