@@ -168,7 +168,7 @@ lit_eq vs a b old new gaps true e g h = (
 )
 lit_eq vs a b old new gaps false e g h = λ x m w. h x m w
 
-All-push : {X : Type 0} (P : X → Type 0) (xs : List X) (y : X) → All P xs → P y → All P (xs ++ y ∷ [])
+pub All-push : {X : Type 0} (P : X → Type 0) (xs : List X) (y : X) → All P xs → P y → All P (xs ++ y ∷ [])
 All-push P [] y h p zero d lt = p
 All-push P [] y h p (suc k) d lt = absurd (omega arith)
 All-push P (x ∷ xs) y h p zero d lt = h 0 x (omega arith)

@@ -7,4 +7,5 @@ pub mod Places
 pub mod Relaxing
 pub mod Solution
 pub mod Solving
+pub mod Spreading
 pub mod Systems

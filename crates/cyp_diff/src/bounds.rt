@@ -14,7 +14,7 @@ use std::marker::Model;
 /// How many entries a row has: as many as there may be places, in whole lanes.
 pub(crate) const WIDTH: usize = 40;
 
-const NONE: i64 = 1 << 60;
+pub(crate) const NONE: i64 = 1 << 60;
 
 const FAR: i64 = 1 << 61;
 

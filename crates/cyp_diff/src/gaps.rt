@@ -1,4 +1,4 @@
-ghost use Rattle.std.specs.Prelude.{◌≡◌, ◌<◌, ◌↔◌, pos, ◌+ℤ◌, ◌-ℤ◌, IfOk, IsTrue, MatchOption, length};
+ghost use Rattle.std.specs.Prelude.{◌≡◌, ◌<◌, ◌↔◌, pos, ◌+ℤ◌, ◌-ℤ◌, IfOk, IsFalse, IsTrue, MatchOption, length};
 ghost use Rattle.std.specs.List.{All};
 ghost use Rattle.cyp_diff.specs.Distances.{IsSmall};
 ghost use Rattle.cyp_diff.specs.Gaps.{Apart, IsGap, SeparateMeans, SideMeans};
@@ -6,6 +6,7 @@ ghost use Rattle.cyp_diff.specs.Solution.{IsLow, at};
 
 use crate::bounds::{Adding, Bounds};
 use crate::crowds::is_crowded;
+use crate::spreading::spread;
 use cyp_term::{Copied, List, NoMemory};
 use std::alloc::Global;
 
@@ -42,6 +43,15 @@ fn broken(xs: &[i64], gaps: &[Gap]) -> Option<usize>
         }
     }
     None
+}
+
+/// Whether one of the gaps is broken.
+pub(crate) fn is_some_broken(xs: &[i64], gaps: &[Gap]) -> bool
+    requires gaps { All (IsGap (length xs.now)) gaps.now }
+    requires low { All IsLow xs.now }
+    ensures { IsFalse result → All (Apart (at xs.now)) gaps.now }
+{
+    broken(xs, gaps).is_some()
 }
 
 /// How much choice the gap leaves: 0 where one of its orders is out, else how far its difference may vary, and the most where
@@ -143,7 +153,8 @@ fn split(
     }
 }
 
-/// Integers that meet the bounds and avoid the gaps. The orders of a gap are tried only where the least distances break one.
+/// Integers that meet the bounds and avoid the gaps. The orders of a gap are tried only where the least distances break one, and so do
+/// integers that are far apart.
 #[cycle(separate)]
 pub(crate) fn separate(
     alloc: Global,
@@ -157,6 +168,9 @@ pub(crate) fn separate(
     match broken(xs.as_slice(), gaps.as_slice()) {
         None => Ok(Some(xs)),
         Some(first) => {
+            if let Some(ys) = spread(alloc, &bounds, xs.as_slice(), gaps.as_slice())? {
+                return Ok(Some(ys));
+            }
             let k = narrowest(&bounds, xs.as_slice(), gaps.as_slice(), first);
             split(alloc, bounds, gaps, k)
         }

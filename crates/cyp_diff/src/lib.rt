@@ -7,6 +7,7 @@ mod gaps;
 mod ints;
 mod places;
 mod solver;
+mod spreading;
 mod system;
 
 pub use bounds::{Adding, Bounds};
@@ -14,5 +15,3 @@ pub use ints::are_ints;
 pub use places::variables_of;
 pub use solver::{Value, solve, solve_with};
 
-#[cfg(test)]
-mod tests;

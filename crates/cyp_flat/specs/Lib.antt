@@ -1,1 +1,3 @@
+pub mod Candidates
+pub mod ChunkRules
 pub mod FlatRows

@@ -1,2 +1,11 @@
-//! The rows of the rules that unfold nothing: definitions.
+//! The rows of the rules that unfold and call nothing.
 #![tactic(auto)]
+
+mod candidates;
+mod flat;
+mod guesses;
+mod places;
+
+pub use flat::flat_rows;
+pub use guesses::pick_rows;
+

@@ -9,7 +9,8 @@ use Rattle.cyp_goal.specs.Dressed.{DressingLaw, dressed, dressed_renaming, resiz
 use Rattle.cyp_goal.specs.Normal.{Renaming, keep_limits, solve, tidy_node}
 use Rattle.cyp_goal.specs.Numbering.{new_name, numbering, renumber}
 use Rattle.cyp_goal.specs.Pruning.{is_kept, only_vars, prune, spread_times}
-use Rattle.cyp_goal.specs.Solving.{first_solved, is_logical, solve_post, solve_pre, solved_any, solved_eq, substitute, wide_subst, with_post, with_pre}
+use Rattle.cyp_goal.specs.Solving.{first_solved, is_logical, solve_post, solve_pre, solved_any, solved_eq, substitute, with_post, with_pre}
+use Rattle.cyp_term.specs.Terms.{apply_lit, is_set_var, lit_elements, lit_eq, lits_vars, term_eq, term_vars, var_eq, var_in, wide_lit, wide_subst, with_all_new, without_repeats}
 use Rattle.cyp_goal.specs.Tidying.{address, address_lits, tidy_lits}
 use Rattle.cyp_heap.specs.Chunks.{apply_chunk, chunk_vars, chunks_vars, wide_chunk}
 use Rattle.cyp_heap.specs.Goals.{apply_link, apply_node, image_vars, node_vars, tuple_vars, wide_link, wide_node}
@@ -20,7 +21,6 @@ use Rattle.cyp_heap.specs.declared.chunk.Chunk.TheVariants.{Block, Cell, Inst}
 use Rattle.cyp_heap.specs.declared.goal.Goal.{Goal}
 use Rattle.cyp_heap.specs.declared.goal.Link.{Link}
 use Rattle.cyp_heap.specs.declared.goal.Node.{Node}
-use Rattle.cyp_term.specs.Terms.{apply_lit, is_set_var, lit_elements, lit_eq, lits_vars, term_eq, term_vars, var_eq, var_in, wide_lit, with_all_new, without_repeats}
 use Rattle.cyp_term.specs.declared.lit.Lit.{Lit}
 use Rattle.cyp_term.specs.declared.subst.Subst.{Subst}
 use Rattle.cyp_term.specs.declared.term.Var.{Var}

@@ -7,7 +7,8 @@ use Rattle.std.proofs.lemmas.Option.{IfSome_then}
 use Rattle.cyp_goal.specs.Normal.{Renaming, keep_limits, normal, solve, tidy_node}
 use Rattle.cyp_goal.specs.Numbering.{numbering, renumber}
 use Rattle.cyp_goal.specs.Pruning.{only_vars, prune}
-use Rattle.cyp_goal.specs.Solving.{first_solved, is_logical, solve_post, solve_pre, solved_any, solved_eq, substitute, wide_subst, with_post, with_pre}
+use Rattle.cyp_goal.specs.Solving.{first_solved, is_logical, solve_post, solve_pre, solved_any, solved_eq, substitute, with_post, with_pre}
+use Rattle.cyp_term.specs.Terms.{var_in, wide_subst}
 use Rattle.cyp_heap.specs.Formed.{IsWellLinked}
 use Rattle.cyp_heap.specs.Goals.{apply_link, apply_node, node_vars, wide_node}
 use Rattle.cyp_heap.specs.Limits.{is_within_limits}
@@ -19,7 +20,6 @@ use Rattle.cyp_heap.specs.declared.pred.Preds.{Preds}
 use Rattle.cyp_heap.proofs.PrefixTuples.{IsWellLinked-goal, IsWellLinked-map, KeepsLink, apply_link_keeps}
 use Rattle.cyp_goal.proofs.LinksCards.{KeepsCards, PairKeeps, first_any_keeps, first_eq_keeps, numbering_keeps}
 use Rattle.cyp_goal.proofs.LinksFit.{FitsPost, FitsPre, SidesFit, applied_sides}
-use Rattle.cyp_term.specs.Terms.{var_in}
 use Rattle.cyp_term.specs.declared.lit.Lit.{Lit}
 use Rattle.cyp_term.specs.declared.subst.Subst.{Subst}
 use Rattle.cyp_term.specs.declared.term.Term.{Term}

@@ -12,7 +12,8 @@ use Rattle.cyp_goal.proofs.SolvedLits.{solved_any-by, solved_eq-by}
 use Rattle.cyp_goal.proofs.TidyLeaves.{address_lit_fits, addresses_fit, post_each, pre_each}
 use Rattle.cyp_goal.specs.Normal.{solve, tidy_node}
 use Rattle.cyp_goal.specs.Pruning.{is_kept, prune}
-use Rattle.cyp_goal.specs.Solving.{first_solved, is_logical, solve_post, solve_pre, solved_any, solved_eq, substitute, wide_subst, with_post, with_pre}
+use Rattle.cyp_goal.specs.Solving.{first_solved, is_logical, solve_post, solve_pre, solved_any, solved_eq, substitute, with_post, with_pre}
+use Rattle.cyp_term.specs.Terms.{var_in, wide_subst}
 use Rattle.cyp_goal.specs.Raw.{chunk_fits, goal_fits, link_fits, lit_fits, node_fits}
 use Rattle.cyp_goal.specs.Tidying.{address}
 use Rattle.cyp_heap.specs.Chunks.{apply_chunk}
@@ -20,7 +21,6 @@ use Rattle.cyp_heap.specs.Goals.{apply_link, apply_node, wide_node}
 use Rattle.cyp_heap.specs.declared.goal.Goal.{Goal}
 use Rattle.cyp_heap.specs.declared.goal.Node.{Node}
 use Rattle.cyp_term.proofs.Lists.{each_at, each_from, map_from}
-use Rattle.cyp_term.specs.Terms.{var_in}
 use Rattle.cyp_term.specs.declared.lit.Lit.{Lit}
 use Rattle.cyp_term.specs.declared.subst.Subst.{Subst}
 use Rattle.cyp_term.specs.declared.term.Term.{Term}

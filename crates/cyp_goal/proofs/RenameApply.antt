@@ -4,7 +4,7 @@ use Rattle.std.specs.List.{list_any}
 use Rattle.cyp_goal.proofs.Maps.{at_cond, flat_map-map, joined, list_any-map, map_both, without_repeats-map}
 use Rattle.cyp_goal.proofs.Rename.{IsRenaming, rename_arg, rename_base, rename_chunk, rename_link, rename_lit, rename_node, rename_set, rename_term, term_eq-rename}
 use Rattle.cyp_goal.proofs.RenameVars.{rename_int_bind, rename_set_bind}
-use Rattle.cyp_goal.specs.Solving.{wide_subst}
+use Rattle.cyp_term.specs.Terms.{apply_lit, apply_set, apply_term, base_or, image_or_self, int_image, set_image, term_at, term_base, term_eq, var_at, var_eq, wide_lit, wide_set, wide_subst, wide_term, without_repeats}
 use Rattle.cyp_heap.specs.Chunks.{apply_arg, apply_card, apply_chunk, wide_arg, wide_chunk}
 use Rattle.cyp_heap.specs.Goals.{apply_bind, apply_link, apply_node, apply_set_bind, wide_link, wide_node}
 use Rattle.cyp_heap.specs.declared.chunk.Arg.{Arg}
@@ -14,7 +14,6 @@ use Rattle.cyp_heap.specs.declared.chunk.Chunk.TheVariants.{Block, Cell, Inst}
 use Rattle.cyp_heap.specs.declared.goal.Goal.{Goal}
 use Rattle.cyp_heap.specs.declared.goal.Link.{Link}
 use Rattle.cyp_heap.specs.declared.goal.Node.{Node}
-use Rattle.cyp_term.specs.Terms.{apply_lit, apply_set, apply_term, base_or, image_or_self, int_image, set_image, term_at, term_base, term_eq, var_at, var_eq, wide_lit, wide_set, wide_term, without_repeats}
 use Rattle.cyp_term.specs.declared.lit.Lit.{Lit}
 use Rattle.cyp_term.specs.declared.lit.Lit.TheVariants.{Eq, Le, Lt, Member, Ne, NotMember, NotSame, NotSub, Same, Sub}
 use Rattle.cyp_term.specs.declared.lit.SetTerm.{SetTerm}

@@ -7,11 +7,11 @@ use Rattle.cyp_goal.proofs.Rename.{IsRenaming, base_eq-rename, rename_base, rena
 use Rattle.cyp_goal.proofs.RenameApply.{apply_node-rename, rename_by, wide-rename}
 use Rattle.cyp_goal.proofs.RenameVars.{var_in-rename}
 use Rattle.cyp_goal.specs.Normal.{solve}
-use Rattle.cyp_goal.specs.Solving.{bind_int, bind_set, first_solved, first_some, is_logical, solve_post, solve_pre, solved_any, solved_base, solved_eq, solved_parts, solved_set, solved_side, substitute, wide_subst, with_post, with_pre}
+use Rattle.cyp_goal.specs.Solving.{bind_int, bind_set, first_solved, first_some, is_logical, solve_post, solve_pre, solved_any, solved_base, solved_eq, solved_parts, solved_set, solved_side, substitute, with_post, with_pre}
+use Rattle.cyp_term.specs.Terms.{base_eq, plus, sort_eq, var_in, wide_subst}
 use Rattle.cyp_heap.specs.Goals.{apply_node, wide_node}
 use Rattle.cyp_heap.specs.declared.goal.Goal.{Goal}
 use Rattle.cyp_heap.specs.declared.goal.Node.{Node}
-use Rattle.cyp_term.specs.Terms.{base_eq, plus, sort_eq, var_in}
 use Rattle.cyp_term.specs.declared.lit.Lit.{Lit}
 use Rattle.cyp_term.specs.declared.lit.Lit.TheVariants.{Eq, Same}
 use Rattle.cyp_term.specs.declared.lit.SetTerm.{SetTerm}

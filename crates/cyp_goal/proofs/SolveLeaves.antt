@@ -9,12 +9,12 @@ use Rattle.cyp_goal.proofs.FirstSolved.{Found, all_none, first_found}
 use Rattle.cyp_goal.proofs.Fits.{FitNode, ImagesFit, lit_fits-at, lits_fit-apply, node_fits-apply}
 use Rattle.cyp_goal.proofs.SolvedLits.{SolvesFor, solved_any-by, solved_eq-by, solved_eq-less}
 use Rattle.cyp_goal.specs.Normal.{solve}
-use Rattle.cyp_goal.specs.Solving.{first_solved, is_logical, solve_post, solve_pre, solved_any, solved_eq, substitute, wide_subst, with_post, with_pre}
+use Rattle.cyp_goal.specs.Solving.{first_solved, is_logical, solve_post, solve_pre, solved_any, solved_eq, substitute, with_post, with_pre}
+use Rattle.cyp_term.specs.Terms.{apply_lit, base_vars, term_at, term_base, var_in, wide_subst}
 use Rattle.cyp_goal.specs.Raw.{lit_once, lit_fits, term_fits}
 use Rattle.cyp_heap.specs.Goals.{apply_node, wide_node}
 use Rattle.cyp_heap.specs.declared.goal.Node.{Node}
 use Rattle.cyp_term.proofs.Lists.{each_at, each_from}
-use Rattle.cyp_term.specs.Terms.{apply_lit, base_vars, term_at, term_base, var_in}
 use Rattle.cyp_term.specs.declared.lit.Lit.{Lit}
 use Rattle.cyp_term.specs.declared.lit.Lit.TheVariants.{Eq}
 use Rattle.cyp_term.specs.declared.subst.Subst.{Subst}

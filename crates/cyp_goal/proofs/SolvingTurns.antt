@@ -6,7 +6,8 @@ use Rattle.std.proofs.lemmas.Bool.{cond-true}
 use Rattle.std.proofs.lemmas.Option.{same_Some}
 use Rattle.cyp_goal.proofs.RenameSolve.{turn}
 use Rattle.cyp_goal.specs.SolvedSides.{FirstBy, IsFirst, side_answer}
-use Rattle.cyp_goal.specs.Solving.{first_solved, substitute, wide_subst}
+use Rattle.cyp_goal.specs.Solving.{first_solved, substitute}
+use Rattle.cyp_term.specs.Terms.{wide_subst}
 use Rattle.cyp_goal.specs.Turns.{Turned}
 use Rattle.cyp_goal.specs.declared.equations.Side.{Side}
 use Rattle.cyp_heap.specs.Goals.{apply_node, wide_node}

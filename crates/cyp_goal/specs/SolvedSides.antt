@@ -1,11 +1,11 @@
 -- Sides of equations that are solved.
 use Rattle.std.specs.Prelude.{[], ◌<◌, ◌≡◌, ◌∷◌, Bool, Err, IfSome, IsTrue, List, MatchOption, None, Ok, Option, Result, Some, false, is_some, length, neg_ℤ, not, option_map, remove, slice_get, true, ℕ}
-use Rattle.cyp_goal.specs.Solving.{bind_int, bind_set, first_solved, solved_any, solved_eq, wide_subst}
+use Rattle.cyp_goal.specs.Solving.{bind_int, bind_set, first_solved, solved_any, solved_eq}
+use Rattle.cyp_term.specs.Terms.{plus, var_in, wide_subst}
 use Rattle.cyp_goal.specs.declared.equations.Side.{Side}
 use Rattle.cyp_goal.specs.declared.equations.Side.TheVariants.{Left, Right}
 use Rattle.cyp_goal.specs.declared.equations.Unknowns.{Unknowns}
 use Rattle.cyp_goal.specs.declared.equations.Unknowns.TheVariants.{Existential, Logical}
-use Rattle.cyp_term.specs.Terms.{plus, var_in}
 use Rattle.cyp_term.specs.declared.fail.Fail.{Fail}
 use Rattle.cyp_term.specs.declared.fail.Fail.TheVariants.{Named, NoMemory}
 use Rattle.cyp_term.specs.declared.lit.Lit.{Lit}

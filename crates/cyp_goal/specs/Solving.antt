@@ -1,16 +1,13 @@
 -- Normal form, its first steps: equations that are solved for a logical variable or an existential.
 use Rattle.std.specs.Prelude.{[], ◌&&◌, Bool, List, None, Option, Some, cond, neg_ℤ, not, option_map, suc, zero, ◌||◌, ℕ, ◌∷◌}
-use Rattle.std.specs.List.{list_any}
 use Rattle.std.specs.Option.{option_and_then}
 use Rattle.cyp_heap.specs.Goals.{apply_node, wide_node}
 use Rattle.cyp_heap.specs.declared.goal.Goal.{Goal}
 use Rattle.cyp_heap.specs.declared.goal.Node.{Node}
-use Rattle.cyp_term.specs.Terms.{base_eq, plus, sort_eq, var_in, wide_set, wide_term}
+use Rattle.cyp_term.specs.Terms.{base_eq, plus, sort_eq, var_in, wide_subst}
 use Rattle.cyp_term.specs.declared.lit.Lit.{Lit}
 use Rattle.cyp_term.specs.declared.lit.Lit.TheVariants.{Eq, Same}
 use Rattle.cyp_term.specs.declared.lit.SetTerm.{SetTerm}
-use Rattle.cyp_term.specs.declared.subst.IntBind.{IntBind}
-use Rattle.cyp_term.specs.declared.subst.SetBind.{SetBind}
 use Rattle.cyp_term.specs.declared.subst.Subst.{Subst}
 use Rattle.cyp_term.specs.declared.term.Sort.TheVariants.{Int}
 use Rattle.cyp_term.specs.declared.term.Term.{Term}
@@ -67,10 +64,6 @@ first_solved f (l ∷ ls) =
       | Some by ↦ Some (by, ls)
       | None ↦ option_map (λ (p : Subst × List Lit). (p.0, l ∷ p.1)) (first_solved f ls)
     ]
-
--- an image of the substitution has an offset past 2 ^ 32
-abbrev pub wide_subst : Subst → Bool
-wide_subst by = list_any (λ (b : IntBind). wide_term b.to) by.ints || list_any (λ (b : SetBind). wide_set b.to) by.sets
 
 -- the substitution in the whole node, or none where an offset passes 2 ^ 32
 abbrev pub substitute : Subst → Node → Option Node

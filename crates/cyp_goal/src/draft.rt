@@ -1,6 +1,7 @@
 ghost use Rattle.std.specs.Prelude.{◌≡◌, IfOk, false};
 ghost use Rattle.cyp_goal.specs.Failures.{Larger};
-ghost use Rattle.cyp_goal.specs.Solving.{substitute, wide_subst};
+ghost use Rattle.cyp_goal.specs.Solving.{substitute};
+ghost use Rattle.cyp_term.specs.Terms.{wide_subst};
 ghost use Rattle.cyp_goal.specs.Turns.{SameNames};
 ghost use Rattle.cyp_term.specs.Answers.{GivesWhere};
 

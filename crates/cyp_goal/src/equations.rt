@@ -1,7 +1,7 @@
 ghost use Rattle.std.specs.Prelude.{◌≡◌, IfOk, IsTrue, MatchBool, MatchOption, None, Some, false, is_some};
-ghost use Rattle.cyp_goal.specs.Solving.{solved_any, solved_eq, solved_set, solved_side, wide_subst};
+ghost use Rattle.cyp_goal.specs.Solving.{solved_any, solved_eq, solved_set, solved_side};
+ghost use Rattle.cyp_term.specs.Terms.{base_eq, sort_eq, var_in, wide_set, wide_subst};
 ghost use Rattle.cyp_goal.specs.SolvedSides.{FirstBy, IsAnswer, Solves, may_solve, set_answer, side_answer, solves, term_answer};
-ghost use Rattle.cyp_term.specs.Terms.{base_eq, sort_eq, var_in, wide_set};
 ghost use Rattle.cyp_term.specs.declared.lit.Lit.TheVariants.{Eq, Same};
 
 use crate::draft::TooLarge;

@@ -28,5 +28,3 @@ pub use laws::{
 };
 pub use normal_form::{Renamed, normal};
 
-#[cfg(test)]
-mod tests;

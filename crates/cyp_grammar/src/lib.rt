@@ -10,5 +10,3 @@ pub use ident::Ident;
 pub use name::Name;
 pub use want::Want;
 
-#[cfg(test)]
-mod tests;

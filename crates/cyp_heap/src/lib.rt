@@ -14,5 +14,3 @@ pub use laws::{
 };
 pub use pred::{Clause, Pred, Preds};
 
-#[cfg(test)]
-mod tests;

@@ -54,15 +54,15 @@ pub record Callable (n : Node) (l : Link) (f : Match) : Type 0 where
   pub writable : list_all (is_writable n.goal) (filter (is_needed n.goal) f.mends) ≡ true
   pub writes : writes_for n.goal f ≡ Some (filter (is_needed n.goal) f.mends)
 
-passed : (a b : Bool) → elim a [ false ↦ false | true ↦ b ] ≡ true → (a ≡ true) × (b ≡ true)
+pub passed : (a b : Bool) → elim a [ false ↦ false | true ↦ b ] ≡ true → (a ≡ true) × (b ≡ true)
 passed true b e = (refl, e)
 passed false b e = absurd (false≢true e)
 
-not_passed : (a b : Bool) → elim a [ true ↦ false | false ↦ b ] ≡ true → b ≡ true
+pub not_passed : (a b : Bool) → elim a [ true ↦ false | false ↦ b ] ≡ true → b ≡ true
 not_passed true b e = absurd (false≢true e)
 not_passed false b e = e
 
-written_true : {A : Type 0} (b : Bool) (x : A) → is_some (cond b (Some x) None) ≡ true → b ≡ true
+pub written_true : {A : Type 0} (b : Bool) (x : A) → is_some (cond b (Some x) None) ≡ true → b ≡ true
 written_true true x e = refl
 written_true false x e = absurd (false≢true e)
 
@@ -86,7 +86,7 @@ callable n l f e =
 
 module _ (n : Node) (steady : IsSteady n) (l : Link) (inner : IsSteady (unlinked n.preds l.goal)) (ks : List ℕ) (f : Match) (match : match_at n l ks ≡ Some f) (calls : Callable n l f)
     (s : Assignment) (h : Store) (ns : List ℕ) (pre : SideHolds n.preds s n.goal.pure_pre n.goal.pre.chunks h ns) where
-  abbrev inst : Instances
+  abbrev pub inst : Instances
   inst = InstanceHolds n.preds
 
   -- the companion's variables have the values of what they are bound to
@@ -135,7 +135,7 @@ module _ (n : Node) (steady : IsSteady n) (l : Link) (inner : IsSteady (unlinked
 
   -- ---- the values that are passed
 
-  args_are : (names : Names) (vs : Values) → AreNamed names vs s n.goal.program → (xs : List Var) → list_all (λ v. is_program_expr n.goal (apply_term f.by (var_term v))) xs ≡ true
+  pub args_are : (names : Names) (vs : Values) → AreNamed names vs s n.goal.program → (xs : List Var) → list_all (λ v. is_program_expr n.goal (apply_term f.by (var_term v))) xs ≡ true
       → map (expr_value vs) (map (λ v. expr_of names (apply_term f.by (var_term v))) xs) ≡ map callee_values.number xs
   args_are names vs named [] e = refl
   args_are names vs named (v ∷ xs) e =

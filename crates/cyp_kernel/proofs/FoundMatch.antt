@@ -4,7 +4,7 @@ use Rattle.std.specs.Prelude.{option_map}
 use Rattle.std.specs.List.{list_any}
 use Rattle.std.specs.Option.{option_and_then}
 use Rattle.std.proofs.lemmas.Option.{none-some, same_Some}
-use Rattle.cyp_goal.specs.Solving.{wide_subst}
+use Rattle.cyp_term.specs.Terms.{apply_set, int_image, is_set_var, set_image, wide_lit, wide_subst, wide_term}
 use Rattle.cyp_heap.specs.declared.goal.Link.{Link}
 use Rattle.cyp_heap.specs.declared.goal.Node.{Node}
 use Rattle.cyp_kernel.proofs.Allowed.{mapped_some}
@@ -15,7 +15,6 @@ use Rattle.cyp_kernel.proofs.WalkFinds.{WalkTrue}
 use Rattle.cyp_term.proofs.Lists.{Among}
 use Rattle.cyp_term.proofs.Substitution.{set_value-apply_set}
 use Rattle.cyp_term.specs.Meaning.{AllTrue, Assignment, SameMembers, set_value, under}
-use Rattle.cyp_term.specs.Terms.{apply_set, int_image, is_set_var, set_image, wide_lit, wide_term}
 use Rattle.cyp_term.specs.declared.lit.Lit.{Lit}
 use Rattle.cyp_term.specs.declared.lit.Lit.TheVariants.{Same}
 use Rattle.cyp_term.specs.declared.lit.SetTerm.{SetTerm}
@@ -27,19 +26,19 @@ use Rattle.cyp_unify.specs.declared.found.Mend.{Mend}
 
 -- ---- bindings by the map
 
-int_bound : (m by more : Subst) (v : Var) (b : Bool) → elim b [ true ↦ Some by | false ↦ option_map (add_int by v) (int_image m.ints v) ] ≡ Some more → Extends by more
+pub int_bound : (m by more : Subst) (v : Var) (b : Bool) → elim b [ true ↦ Some by | false ↦ option_map (add_int by v) (int_image m.ints v) ] ≡ Some more → Extends by more
 int_bound m by more v true e = subst (λ (x : Subst). Extends by x) (same_Some by more e) (extends_self by)
 int_bound m by more v false e =
     let a = mapped_some (add_int by v) (int_image m.ints v) more e in
     subst (λ (x : Subst). Extends by x) a.2 (record { ints = λ w t i. int_behind by.ints (record { var = v; to = a.0 } ∷ []) w t i; sets = λ w u i. i })
 
-set_bound : (m by more : Subst) (v : Var) (b : Bool) → elim b [ true ↦ Some by | false ↦ option_map (add_set by v) (set_image m.sets v) ] ≡ Some more → Extends by more
+pub set_bound : (m by more : Subst) (v : Var) (b : Bool) → elim b [ true ↦ Some by | false ↦ option_map (add_set by v) (set_image m.sets v) ] ≡ Some more → Extends by more
 set_bound m by more v true e = subst (λ (x : Subst). Extends by x) (same_Some by more e) (extends_self by)
 set_bound m by more v false e =
     let a = mapped_some (add_set by v) (set_image m.sets v) more e in
     subst (λ (x : Subst). Extends by x) a.2 (record { ints = λ w t i. i; sets = λ w u i. set_behind by.sets (record { var = v; to = a.0 } ∷ []) w u i })
 
-one_bound : (m by more : Subst) (v : Var) (b : Bool)
+pub one_bound : (m by more : Subst) (v : Var) (b : Bool)
     → elim b [
       | false ↦ elim (is_some (int_image by.ints v)) [ true ↦ Some by | false ↦ option_map (add_int by v) (int_image m.ints v) ]
       | true ↦ elim (is_some (set_image by.sets v)) [ true ↦ Some by | false ↦ option_map (add_set by v) (set_image m.sets v) ]
@@ -59,14 +58,14 @@ all_kept m by more (v ∷ vs) e =
 
 -- ---- the match
 
-narrow : (b : Bool) (x f : Match) → cond b None (Some x) ≡ Some f → x ≡ f
+pub narrow : (b : Bool) (x f : Match) → cond b None (Some x) ≡ Some f → x ≡ f
 narrow true x f e = absurd (none-some f e)
 narrow false x f e = same_Some x f e
 
-abbrev late_lits : Subst → List (SetTerm × SetTerm) → List Lit
+abbrev pub late_lits : Subst → List (SetTerm × SetTerm) → List Lit
 late_lits by late = map (λ (p : SetTerm × SetTerm). Same (apply_set by p.0) p.1) late
 
-late_true : (s : Assignment) (by : Subst) (late : List (SetTerm × SetTerm)) → AllTrue s (late_lits by late)
+pub late_true : (s : Assignment) (by : Subst) (late : List (SetTerm × SetTerm)) → AllTrue s (late_lits by late)
     → (p : SetTerm × SetTerm) → Among p late → SameMembers (set_value (under by s) p.0) (set_value s p.1)
 late_true s by [] a p k = absurd k
 late_true s by (q ∷ qs) a p (inl e) =
@@ -84,13 +83,13 @@ pub record Found (n : Node) (l : Link) (ks : List ℕ) (f : Match) : Type 0 wher
   pub true_walk : (s : Assignment) → AllTrue s f.need → WalkTrue s f.by (walk l.goal.exist no_walk steps)
 
 module _ (n : Node) (l : Link) (ks : List ℕ) (ps : List Position) (paired : ArePaired n.goal.pre.chunks l.goal.pre.chunks ks ps) where
-  abbrev over : Walk
+  abbrev pub over : Walk
   over = walk l.goal.exist no_walk ps
 
-  abbrev whole : Subst → Match
+  abbrev pub whole : Subst → Match
   whole by = record { pairs = ks; by = by; need = over.need ++ late_lits by over.late; mends = over.mends }
 
-  found_whole : (by : Subst) → all_bound l.map over.by (to_bind l) ≡ Some by → Found n l ks (whole by)
+  pub found_whole : (by : Subst) → all_bound l.map over.by (to_bind l) ≡ Some by → Found n l ks (whole by)
   found_whole by e = record {
     steps = ps;
     paired = paired;

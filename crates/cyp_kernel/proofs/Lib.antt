@@ -51,6 +51,7 @@ pub mod Offsets
 pub mod OldVars
 pub mod Opened
 pub mod OpenedHolds
+pub mod OpenedSmall
 pub mod PairedChunks
 pub mod PairsHold
 pub mod PairsOut

@@ -12,17 +12,17 @@ use Rattle.cyp_term.specs.Meaning.{Assignment}
 use Rattle.cyp_term.specs.Terms.{var_eq, var_in}
 use Rattle.cyp_term.specs.declared.term.Var.{Var}
 
-heads : (a b : ℤ) (xs ys : List ℤ) → a ∷ xs ≡ b ∷ ys → a ≡ b
+pub heads : (a b : ℤ) (xs ys : List ℤ) → a ∷ xs ≡ b ∷ ys → a ≡ b
 heads a b xs ys e = cc
 
-tails : (a b : ℤ) (xs ys : List ℤ) → a ∷ xs ≡ b ∷ ys → xs ≡ ys
+pub tails : (a b : ℤ) (xs ys : List ℤ) → a ∷ xs ≡ b ∷ ys → xs ≡ ys
 tails a b xs ys e = cc
 
-no_tail : (a : ℤ) (xs : List ℤ) → a ∷ xs ≡ [] → ⊥
+pub no_tail : (a : ℤ) (xs : List ℤ) → a ∷ xs ≡ [] → ⊥
 no_tail a xs e = cc
 
 -- the names of the old variables in order, at the new ones
-renamed : (names : Names) (vs : Values) (s u : Assignment) (new old : List Var) → map u.number new ≡ map s.number old
+pub renamed : (names : Names) (vs : Values) (s u : Assignment) (new old : List Var) → map u.number new ≡ map s.number old
     → ((v : Var) → var_in v old ≡ true → lookup vs (name_of names v) ≡ s.number v)
     → (v : Var) → var_in v new ≡ true → lookup vs (name_of (zip new (map (name_of names) old)) v) ≡ u.number v
 renamed names vs s u [] old e named v h = absurd (false≢true h)

@@ -29,7 +29,7 @@ use Rattle.cyp_step.specs.declared.rule.Rule.{Rule}
 use Rattle.cyp_step.specs.declared.rule.Rule.TheVariants.{ByCall}
 
 -- bodies that meet the goals of the normal forms meet those of the nodes
-meet_before : (ps : List Procedure) (names : Names) (k : ℕ) (preds : Preds) (ms : List Node) (rs : List Renaming) (bs : List Body)
+pub meet_before : (ps : List Procedure) (names : Names) (k : ℕ) (preds : Preds) (ms : List Node) (rs : List Renaming) (bs : List Body)
     → AllByRecursion (IsOver preds IsSteadyRaw) ms → all_normal ms ≡ Some rs → AllMeetRenamed ps names k rs bs → AllMeet ps names k ms bs
 meet_before ps names k preds [] rs [] s e h = tt
 meet_before ps names k preds [] rs (b ∷ bs) s e h = subst (λ (xs : List Renaming). AllMeetRenamed ps names k xs (b ∷ bs)) (sym (same_Some [] rs e)) h
@@ -59,7 +59,7 @@ through_normal rule law = through_node rule (at_nodes rule law)
 -- ---- a call
 
 -- the companions of a node of a derivation are as a call asks
-steady_links : (n : Node) → IsSteadyNode n → HasSteadyLinks n
+pub steady_links : (n : Node) → IsSteadyNode n → HasSteadyLinks n
 steady_links n w = record {
   goals = λ i l e. subst (λ (o : Option Link). IfSome o (λ (k : Link). IsSteady (unlinked n.preds k.goal))) e (Every-slice_get (λ (k : Link). IsSteady (unlinked n.preds k.goal)) n.links i w.raw.companions);
   exist_free = λ i l e. subst (λ (o : Option Link). IfSome o HasFreeExist) e (Every-slice_get HasFreeExist n.links i w.free);

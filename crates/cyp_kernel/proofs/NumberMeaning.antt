@@ -33,7 +33,7 @@ use Rattle.cyp_term.specs.declared.term.Term.{Term}
 use Rattle.cyp_term.specs.declared.term.Var.{Var}
 
 -- the cardinalities among the variables of chunks that fit
-cards_fit : (p q : Var → Bool) (K : Var → Type 0) (cs : List Chunk) → list_all (chunk_fits p q) cs ≡ true → Each K (chunks_vars cs) → (c : Var) → Among c (cards_of cs) → (p c ≡ true) × K c
+pub cards_fit : (p q : Var → Bool) (K : Var → Type 0) (cs : List Chunk) → list_all (chunk_fits p q) cs ≡ true → Each K (chunks_vars cs) → (c : Var) → Among c (cards_of cs) → (p c ≡ true) × K c
 cards_fit p q K [] h e c k = absurd k
 cards_fit p q K (Inst i ∷ cs) h e c k =
     let both = and_parts (chunk_fits p q (Inst i)) (list_all (chunk_fits p q) cs) h in
@@ -47,21 +47,21 @@ cards_fit p q K (Inst i ∷ cs) h e c k =
 cards_fit p q K (Block b ∷ cs) h e c k = cards_fit p q K cs (and_parts (chunk_fits p q (Block b)) (list_all (chunk_fits p q) cs) h).1 (second K (chunk_vars (Block b)) (chunks_vars cs) e) c k
 cards_fit p q K (Cell d ∷ cs) h e c k = cards_fit p q K cs (and_parts (chunk_fits p q (Cell d)) (list_all (chunk_fits p q) cs) h).1 (second K (chunk_vars (Cell d)) (chunks_vars cs) e) c k
 
-plus_zero : (x : ℤ) → x +ℤ pos 0 ≡ x
+pub plus_zero : (x : ℤ) → x +ℤ pos 0 ≡ x
 plus_zero x = omega (arith, ints)
 
 module _ (vs : List Var) where
-  abbrev new : Var → Var
+  abbrev pub new : Var → Var
   new v = new_name vs v
 
-  abbrev by : Subst
+  abbrev pub by : Subst
   by = numbering vs
 
   -- the variable is one of those that are numbered
-  abbrev In : Var → Type 0
+  abbrev pub In : Var → Type 0
   In v = Among v vs
 
-  new_apart : (v w : Var) → In v → In w → new v ≡ new w → v ≡ w
+  pub new_apart : (v w : Var) → In v → In w → new v ≡ new w → v ≡ w
   new_apart v w i j e =
       let is : IsRenaming (name_in vs) = IsRenaming-name_in vs in
       (Decides-var_eq v w).0 (sym (is.apart v w) ∙ (Decides-var_eq (name_in vs v) (name_in vs w)).1 (sym (name_in-new vs v i) ∙ e ∙ name_in-new vs w j))
@@ -69,11 +69,11 @@ module _ (vs : List Var) where
   -- ---- what was numbered
 
   -- the variable of the list that got this name
-  abbrev old_in : List Var → Var → Var
+  abbrev pub old_in : List Var → Var → Var
   old_in [] w = w
   old_in (v ∷ us) w = cond (var_eq (new v) w) v (old_in us w)
 
-  old_of_new : (us : List Var) → ((v : Var) → Among v us → In v) → (v : Var) → Among v us → old_in us (new v) ≡ v
+  pub old_of_new : (us : List Var) → ((v : Var) → Among v us → In v) → (v : Var) → Among v us → old_in us (new v) ≡ v
   old_of_new [] h v k = absurd k
   old_of_new (u ∷ us) h v k =
       cond_both (var_eq (new u) (new v)) u (old_in us (new v)) (λ x. x ≡ v)
@@ -84,7 +84,7 @@ module _ (vs : List Var) where
       rest e (inl i) = absurd (both_ways (var_eq (new u) (new v)) e ((Decides-var_eq (new u) (new v)).1 (ap new (sym i))))
       rest e (inr m) = m
 
-  old_new : (v : Var) → In v → old_in vs (new v) ≡ v
+  pub old_new : (v : Var) → In v → old_in vs (new v) ≡ v
   old_new v k = old_of_new vs (λ w m. m) v k
 
   -- ---- images
@@ -96,29 +96,29 @@ module _ (vs : List Var) where
   set_new v h k = set_image_at (λ w. set_var (new w)) (filter is_set_var vs) v (filter_in is_set_var v vs k h)
 
   module _ (x : Assignment) where
-    number_new : (v : Var) → no_set v ≡ true → In v → (under by x).number v ≡ x.number (new v)
+    pub number_new : (v : Var) → no_set v ≡ true → In v → (under by x).number v ≡ x.number (new v)
     number_new v h k = ap (image_value x v) (int_new v h k) ∙ plus_zero (x.number (new v))
 
-    members_new : (v : Var) → is_set_var v ≡ true → In v → SameMembers ((under by x).members v) (x.members (new v))
+    pub members_new : (v : Var) → is_set_var v ≡ true → In v → SameMembers ((under by x).members v) (x.members (new v))
     members_new v h k z = ap (λ (o : Option SetTerm). int_in z (image_members x v o)) (set_new v h k) ∙ alone x (set_var (new v)) (new v) refl refl z
 
-    stands : (cs : List Chunk) → list_all (chunk_fits no_set is_set_var) cs ≡ true → Each In (chunks_vars cs) → Stands by x (cards_of cs)
+    pub stands : (cs : List Chunk) → list_all (chunk_fits no_set is_set_var) cs ≡ true → Each In (chunks_vars cs) → Stands by x (cards_of cs)
     stands cs h e c k =
         let f = cards_fit no_set is_set_var In cs h e c k in
         number_new c f.0 f.1 ∙ sym (ap (λ (o : Option Term). x.number (var_at c o)) (int_new c f.0 f.1))
 
   -- ---- the assignment for the new names
 
-  abbrev for_new : Assignment → Assignment
+  abbrev pub for_new : Assignment → Assignment
   for_new s = record { number = λ w. s.number (old_in vs w); members = λ w. s.members (old_in vs w) }
 
-  new_number : (s : Assignment) (v : Var) → In v → (for_new s).number (new v) ≡ s.number v
+  pub new_number : (s : Assignment) (v : Var) → In v → (for_new s).number (new v) ≡ s.number v
   new_number s v k = ap s.number (old_new v k)
 
-  new_members : (s : Assignment) (v : Var) → In v → SameMembers ((for_new s).members (new v)) (s.members v)
+  pub new_members : (s : Assignment) (v : Var) → In v → SameMembers ((for_new s).members (new v)) (s.members v)
   new_members s v k z = ap (λ (w : Var). int_in z (s.members w)) (old_new v k)
 
-  new_program : (s : Assignment) (us : List Var) → Each In us → map (for_new s).number (map new us) ≡ map s.number us
+  pub new_program : (s : Assignment) (us : List Var) → Each In us → map (for_new s).number (map new us) ≡ map s.number us
   new_program s [] e = refl
   new_program s (u ∷ us) e =
       let here = new_number s u (e u (inl refl)) in
@@ -127,16 +127,16 @@ module _ (vs : List Var) where
 
   -- ---- and back: by the new names, and as before where a variable has none
 
-  abbrev for_old : Assignment → Assignment → Assignment
+  abbrev pub for_old : Assignment → Assignment → Assignment
   for_old s t = record {
     number = λ v. cond (var_in v vs) (t.number (new v)) (s.number v);
     members = λ v. cond (var_in v vs) (t.members (new v)) (s.members v);
   }
 
-  old_number : (s t : Assignment) (v : Var) → In v → (for_old s t).number v ≡ t.number (new v)
+  pub old_number : (s t : Assignment) (v : Var) → In v → (for_old s t).number v ≡ t.number (new v)
   old_number s t v k = cond-true (var_in v vs) (t.number (new v)) (s.number v) (among_in v vs k)
 
-  old_members : (s t : Assignment) (v : Var) → In v → (for_old s t).members v ≡ t.members (new v)
+  pub old_members : (s t : Assignment) (v : Var) → In v → (for_old s t).members v ≡ t.members (new v)
   old_members s t v k = cond-true (var_in v vs) (t.members (new v)) (s.members v) (among_in v vs k)
 
   module _ (exist : List Var) (used : Each In exist) where
@@ -146,7 +146,7 @@ module _ (vs : List Var) where
         both_ways (var_in v exist) out (among_in v exist (subst (λ (w : Var). Among w exist) (sym (new_apart v m.0 k (used m.0 m.1) m.2)) m.1)))
 
   module _ (exist : List Var) (used : Each In exist) (s t : Assignment) (beside : AgreeBeside (map new exist) (for_new s) t) where
-    back_beside : AgreeBeside exist s (for_old s t)
+    pub back_beside : AgreeBeside exist s (for_old s t)
     back_beside v out = ⊎_elim named unnamed (cases_Bool (var_in v vs))
       where
         named : var_in v vs ≡ true → AgreeBy v.sort s (for_old s t) v

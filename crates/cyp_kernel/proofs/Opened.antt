@@ -14,12 +14,12 @@ use Rattle.cyp_term.specs.declared.term.Sort.TheVariants.{Card, Int, Set}
 use Rattle.cyp_term.specs.declared.term.Var.{Var}
 
 module _ (x : Next) (ints sets : ℕ) (ns : List ℕ) (s w : Assignment) where
-  abbrev opened_number : Sort → Var → ℤ
+  abbrev pub opened_number : Sort → Var → ℤ
   opened_number Int v = cond (nat_lt v.number x.ints) (s.number v) (w.number (int_var (ints + (v.number - x.ints))))
   opened_number Card v = cond (nat_lt v.number x.cards) (s.number v) (pos (get_or ns (v.number - x.cards) 0))
   opened_number Set v = s.number v
 
-  abbrev opened_members : Var → List ℤ
+  abbrev pub opened_members : Var → List ℤ
   opened_members v = cond (nat_lt v.number x.sets) (s.members v) (w.members (set_numbered (sets + (v.number - x.sets))))
 
   -- old variables as in the first assignment; new integers and sets as the clause's own variables in the second, which are numbered

@@ -46,44 +46,44 @@ use Rattle.cyp_term.specs.declared.term.Var.{Var}
 use Rattle.cyp_unify.specs.Frames.{focus}
 
 -- the chunks after an allocation of so many cells
-abbrev alloc_chunks : Node → ℕ → List Chunk
+abbrev pub alloc_chunks : Node → ℕ → List Chunk
 alloc_chunks n size =
     let z : Var = new_int n in
     put_all (put (pre_of n) (Block (record { at = var_term z; size = size }))) (new_cells (var_term z) 0 (map var_term (new_ints (suc z.number) size)))
 
-abbrev alloc_node : Node → BlockValue → Node
+abbrev pub alloc_node : Node → BlockValue → Node
 alloc_node n f =
     let z : Var = new_int n in
     let q : Node = add_post (add_pre n [] (alloc_chunks n f.size)) (Eq f.at (var_term z) ∷ []) (post_of n) in
     record q { goal = record q.goal { program = n.goal.program ++ z ∷ [] } }
 
-alloc_parts : (n : Node) (o : Option Chunk) (ms : List Node) → raw_alloc n o ≡ Some ms → (f : BlockValue) × (o ≡ Some (Block f)) × (ms ≡ alloc_node n f ∷ [])
+pub alloc_parts : (n : Node) (o : Option Chunk) (ms : List Node) → raw_alloc n o ≡ Some ms → (f : BlockValue) × (o ≡ Some (Block f)) × (ms ≡ alloc_node n f ∷ [])
 alloc_parts n (Some (Block f)) ms is = (f, refl, sym (same_Some _ ms (where_true_parts _ _ ms is).1))
 alloc_parts n o ms is = cc
 
 -- the heap with the new block and its cells
-abbrev taken : Store → ℤ → ℕ → List ℤ → Store
+abbrev pub taken : Store → ℤ → ℕ → List ℤ → Store
 taken h a size zs = record { cells = insert_all h.cells a zs; blocks = insert h.blocks a size }
 
 -- the block and the cells are put among the chunks
 module _ (n : Node) (steady : IsSteady n) (s : Assignment) (h : Store) (ns : List ℕ) (pre : SideHolds n.preds s n.goal.pure_pre n.goal.pre.chunks h ns) (a : ℤ) (zs : List ℤ) (free : IsFree h a (length zs)) where
-  abbrev inst : Instances
+  abbrev pub inst : Instances
   inst = InstanceHolds n.preds
 
   -- the new variable is the base, and those behind it are the contents
-  abbrev taken_values : Assignment
+  abbrev pub taken_values : Assignment
   taken_values = put_numbers s (new_int n).number (a ∷ zs)
 
-  base_value_is : value taken_values (var_term (new_int n)) ≡ a
+  pub base_value_is : value taken_values (var_term (new_int n)) ≡ a
   base_value_is = plus-zero (taken_values.number (new_int n)) ∙ (numbers_are s (new_int n).number (a ∷ zs)).0
 
-  kept_side : SideHolds n.preds taken_values n.goal.pure_pre (pre_of n) h ns
+  pub kept_side : SideHolds n.preds taken_values n.goal.pure_pre (pre_of n) h ns
   kept_side =
       let sorted = sorted_goal n steady in
       let parts = put_new n s (a ∷ zs) in
       side_by_vars s taken_values n.preds n.goal.pure_pre (pre_of n) h ns sorted.pure_pre sorted.pre parts.pure_pre parts.pre pre
 
-  block_in : AllHold inst taken_values (put (pre_of n) (Block (record { at = var_term (new_int n); size = length zs }))) (record { cells = h.cells; blocks = insert h.blocks a (length zs) })
+  pub block_in : AllHold inst taken_values (put (pre_of n) (Block (record { at = var_term (new_int n); size = length zs }))) (record { cells = h.cells; blocks = insert h.blocks a (length zs) })
   block_in =
       let one : Store = record { cells = empty; blocks = insert empty a (length zs) } in
       let back = sym base_value_is in
@@ -92,7 +92,7 @@ module _ (n : Node) (steady : IsSteady n) (s : Assignment) (h : Store) (ns : Lis
       (subst (λ (y : ℤ). pos 0 <ℤ y) back free.0, refl, (λ i. insert empty (back i) (length zs)))
       (ns, kept_side.1, kept_side.2)
 
-  cells_in : AllHold inst taken_values (alloc_chunks n (length zs)) (taken h a (length zs) zs)
+  pub cells_in : AllHold inst taken_values (alloc_chunks n (length zs)) (taken h a (length zs) zs)
   cells_in =
       let z : Var = new_int n in
       let with_block : Store = record { cells = h.cells; blocks = insert h.blocks a (length zs) } in
@@ -104,7 +104,7 @@ module _ (n : Node) (steady : IsSteady n) (s : Assignment) (h : Store) (ns : Lis
       block_in
 
 -- what the premise's body does after the allocation is right for the node
-after_alloc : (ps : List Procedure) (n : Node) (f : BlockValue) (names : Names) (next k : ℕ) (b : Body) → IsSteady n → IsNaming names n.goal.program next
+pub after_alloc : (ps : List Procedure) (n : Node) (f : BlockValue) (names : Names) (next k : ℕ) (b : Body) → IsSteady n → IsNaming names n.goal.program next
     → BodyMeets ps n.preds (alloc_node n f).goal (names ++ (new_int n, next) ∷ []) k b
     → (s : Assignment) (h : Store) (ns : List ℕ) (vs : Values) → SideHolds n.preds s n.goal.pure_pre n.goal.pre.chunks h ns → AreNamed names vs s n.goal.program
     → (a : ℤ) (zs : List ℤ) → length zs ≡ f.size → IsFree h a f.size

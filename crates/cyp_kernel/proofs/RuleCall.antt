@@ -44,19 +44,19 @@ use Rattle.cyp_unify.specs.declared.found.Mend.{Mend}
 -- ---- the rule's tests
 
 -- the companion, its match and the premise
-record Called (n : Node) (ks : List ℕ) (o : Option Link) (ms : List Node) : Type 0 where
-  link : Link
-  link_is : o ≡ Some link
-  found_match : Match
-  match_is : match_at n link ks ≡ Some found_match
-  passes : is_callable n link found_match ≡ true
-  premises : ms ≡ after_call n link found_match ∷ []
+pub record Called (n : Node) (ks : List ℕ) (o : Option Link) (ms : List Node) : Type 0 where
+  pub link : Link
+  pub link_is : o ≡ Some link
+  pub found_match : Match
+  pub match_is : match_at n link ks ≡ Some found_match
+  pub passes : is_callable n link found_match ≡ true
+  pub premises : ms ≡ after_call n link found_match ∷ []
 
-allowed : (b : Bool) (x ms : List Node) → ◌≡◌ {A = Option (List Node)} (elim b [ false ↦ None | true ↦ Some x ]) (Some ms) → (b ≡ true) × (ms ≡ x)
+pub allowed : (b : Bool) (x ms : List Node) → ◌≡◌ {A = Option (List Node)} (elim b [ false ↦ None | true ↦ Some x ]) (Some ms) → (b ≡ true) × (ms ≡ x)
 allowed true x ms e = (refl, sym (same_Some x ms e))
 allowed false x ms e = absurd (none-some ms e)
 
-called : (n : Node) (ks : List ℕ) (o : Option Link) (ms : List Node) → raw_call n ks o ≡ Some ms → Called n ks o ms
+pub called : (n : Node) (ks : List ℕ) (o : Option Link) (ms : List Node) → raw_call n ks o ≡ Some ms → Called n ks o ms
 called n ks None ms e = absurd (none-some ms e)
 called n ks (Some l) ms e =
     let a = taken_some (match_at n l ks) _ ms e in
@@ -69,20 +69,20 @@ module _ (ps : List Procedure) (n : Node) (steady : IsSteady n) (i : ℕ) (l : L
     (free : ExistFree l.map l.goal.exist ≡ true) (ks : List ℕ) (f : Match) (match : match_at n l ks ≡ Some f) (calls : Callable n l f)
     (names : Names) (p k : ℕ) (works : ProcedureMeets ps n.preds l.goal p k) (b : Body) (premise : BodyMeets ps n.preds (after_call n l f).goal names k b)
     (s : Assignment) (h : Store) (ns : List ℕ) (vs : Values) (pre : SideHolds n.preds s n.goal.pure_pre n.goal.pre.chunks h ns) (named : AreNamed names vs s n.goal.program) where
-  abbrev inst : Instances
+  abbrev pub inst : Instances
   inst = InstanceHolds n.preds
 
-  abbrev u : Assignment
+  abbrev pub u : Assignment
   u = callee_values n steady l inner ks f match calls s h ns pre
 
-  abbrev made : List Mend
+  abbrev pub made : List Mend
   made = call_stores n steady l inner ks f match calls s h ns pre
 
-  abbrev args : List Expr
+  abbrev pub args : List Expr
   args = map (λ v. expr_of names (apply_term f.by (var_term v))) l.goal.program
 
   -- what follows the call goes right
-  follows : (rest : Store) → AllHold inst s (chunks_beside 0 ks (pre_of n)) rest → (g large : Store) → MeetsPost n.preds l.goal u g → IsUnion large g rest
+  pub follows : (rest : Store) → AllHold inst s (chunks_beside 0 ks (pre_of n)) rest → (g large : Store) → MeetsPost n.preds l.goal u g → IsUnion large g rest
       → GoesRight ps n.preds n.goal s large vs k b
   follows rest others g large post union m t le r =
       let ms : List ℕ = post.1 in
@@ -97,7 +97,7 @@ module _ (ps : List Procedure) (n : Node) (steady : IsSteady n) (i : ℕ) (l : L
       same_post n.preds (after_call n l f).goal n.goal w s t (met_by_others n.preds n.goal s w t.store sorted.pure_post sorted.post kept.pure_post kept.post)
       (premise w large side.0 vs side' (λ v e. named v e ∙ program_kept n steady i l at inner free ks f match s post.0 ms post.2 v e) m t le r)
 
-  goes_right : GoesRight ps n.preds n.goal s h vs k (stores n names made (Then (Invoking p args) b))
+  pub goes_right : GoesRight ps n.preds n.goal s h vs k (stores n names made (Then (Invoking p args) b))
   goes_right =
       stores_right inst ps n n.goal names s vs k (Then (Invoking p args) b) named made (stores_writable n steady l inner ks f match calls s h ns pre) (pre_of n) h (λ j. refl) (ns, pre.1, pre.2)
       (λ large all.

@@ -58,7 +58,7 @@ from_first j a (suc m) (inr h) = less j a (from_first j (suc a) m h)
 
 module _ (x : Next) (o : Sort) where
   -- variables of the sort, numbered from the first new one on
-  abbrev numbered : ℕ → List Var
+  abbrev pub numbered : ℕ → List Var
   numbered m = map (λ j. record { sort = o; number = j }) (count_from (next_at x o) m)
 
   pub not_numbered : (v : Var) → IsOld x v → (m : ℕ) → var_in v (numbered m) ≡ false
@@ -70,7 +70,7 @@ module _ (x : Next) (o : Sort) where
       apart j a l m = omega arith
 
 -- a postcondition met with more existentials, which are new, is met with those that there were
-fewer_exist : (preds : Preds) (g : Goal) (s t : Assignment) (own : List Var) (h : Store) (ns : List ℕ) → list_all lit_sorted g.pure_post ≡ true → list_all chunk_sorted g.post.chunks ≡ true
+pub fewer_exist : (preds : Preds) (g : Goal) (s t : Assignment) (own : List Var) (h : Store) (ns : List ℕ) → list_all lit_sorted g.pure_post ≡ true → list_all chunk_sorted g.post.chunks ≡ true
     → Each (λ v. var_in v own ≡ false) (lits_vars g.pure_post) → Each (λ v. var_in v own ≡ false) (chunks_vars g.post.chunks)
     → AgreeBeside (g.exist ++ own) s t → SideHolds preds t g.pure_post g.post.chunks h ns → MeetsPost preds g s h
 fewer_exist preds g s t own h ns lits chunks a b beside k =
@@ -91,12 +91,12 @@ fewer_exist preds g s t own h ns lits chunks a b beside k =
 abbrev pub own_vars : Next → Unfolded → List Var
 own_vars next u = new_ints next.ints (u.next.ints - next.ints) ++ new_sets next.sets (u.next.sets - next.sets)
 
-abbrev closed_node : Node → Unfolded → Node
+abbrev pub closed_node : Node → Unfolded → Node
 closed_node n u =
     let m : Node = add_post n (u.guard ∷ u.lits) (put_all (without (post_of n) 0) u.heap.chunks) in
     record m { goal = record m.goal { exist = n.goal.exist ++ own_vars (next_of n) u } }
 
-close_parts : (n : Node) (k : ℕ) (o : Option Chunk) (ms : List Node) → raw_close n k o ≡ Some ms
+pub close_parts : (n : Node) (k : ℕ) (o : Option Chunk) (ms : List Node) → raw_close n k o ≡ Some ms
     → (j : InstOf) × (o ≡ Some (Inst j)) × (u : Unfolded) × (slice_get (unfold_inst n.preds j (next_of n)) k ≡ Some u) × (ms ≡ closed_node n u ∷ [])
 close_parts n k (Some (Inst j)) ms is =
     let a = where_true_parts _ _ ms is in

@@ -41,19 +41,19 @@ use Rattle.cyp_step.specs.declared.rule.Rule.TheVariants.{ByFree}
 use Rattle.cyp_term.specs.Meaning.{value}
 
 -- the heap without the block and its cells
-abbrev freed : Store → ℤ → ℕ → Store
+abbrev pub freed : Store → ℤ → ℕ → Store
 freed g z size = record { cells = remove_all g.cells (addresses z size); blocks = remove g.blocks z }
 
 -- the chunk is a block at a program expression, and its cells are taken out of the other chunks
-record Frees (n : Node) (i : ℕ) (o : Option Chunk) (ms : List Node) : Type 0 where
-  block : BlockValue
-  block_is : o ≡ Some (Block block)
-  address : is_program_expr n.goal block.at ≡ true
-  left : List Chunk
-  cells : without_cells (block_cells block.at block.size) (without (pre_of n) i) ≡ Some left
-  premise : ms ≡ add_pre n [] left ∷ []
+pub record Frees (n : Node) (i : ℕ) (o : Option Chunk) (ms : List Node) : Type 0 where
+  pub block : BlockValue
+  pub block_is : o ≡ Some (Block block)
+  pub address : is_program_expr n.goal block.at ≡ true
+  pub left : List Chunk
+  pub cells : without_cells (block_cells block.at block.size) (without (pre_of n) i) ≡ Some left
+  pub premise : ms ≡ add_pre n [] left ∷ []
 
-free_parts : (n : Node) (i : ℕ) (o : Option Chunk) (ms : List Node) → raw_free n i o ≡ Some ms → Frees n i o ms
+pub free_parts : (n : Node) (i : ℕ) (o : Option Chunk) (ms : List Node) → raw_free n i o ≡ Some ms → Frees n i o ms
 free_parts n i (Some (Block b)) ms is =
     let a = taken_true _ _ ms is in
     let d = mapped_some (λ (cs : List Chunk). add_pre n [] cs ∷ []) _ ms a.1 in

@@ -1,5 +1,5 @@
 -- Open is sound: the clause that holds is the one whose guard is true, and its premise's body runs.
-use Rattle.std.proofs.Common.{◌≡◌, refl, sym, ap, ◌∙◌, ℕ, zero, suc, inl, inr, Bool, true, List, [], ◌∷◌, ◌++◌, map, flat_map, length, Option, Some, pos, subst}
+use Rattle.std.proofs.Common.{◌≡◌, refl, sym, ap, ◌∙◌, ℕ, zero, suc, ◌≤◌, inl, inr, Bool, true, get_or, arith, List, [], ◌∷◌, ◌++◌, map, flat_map, length, Option, Some, pos, subst}
 use Rattle.std.specs.Prelude.{slice_get}
 use Rattle.std.specs.List.{list_all}
 use Rattle.std.proofs.lemmas.Bool.{and_from, and_parts}
@@ -8,8 +8,9 @@ use Rattle.cyp_goal.proofs.EachVar.{EachPart, each_part}
 use Rattle.cyp_heap.proofs.Guards.{guards_law}
 use Rattle.cyp_heap.specs.Assertions.{CardIs, SideHolds}
 use Rattle.cyp_heap.specs.Chunks.{arg_vars, card_vars, chunk_vars, put_all, without}
-use Rattle.cyp_heap.specs.Instances.{InstanceHolds, Instances, arg_value}
+use Rattle.cyp_heap.specs.Instances.{InstanceHolds, Instances, arg_value, height_above}
 use Rattle.cyp_heap.specs.Laws.{SameArgValues}
+use Rattle.cyp_heap.specs.Formed.{is_card_var}
 use Rattle.cyp_heap.specs.PredsFormed.{IsFormedPreds}
 use Rattle.cyp_heap.specs.Stores.{Store}
 use Rattle.cyp_heap.specs.declared.chunk.Chunk.{Chunk}
@@ -29,6 +30,7 @@ use Rattle.cyp_kernel.proofs.GuardTests.{GoesRight, choose_right}
 use Rattle.cyp_kernel.proofs.NewNumber.{old_parts}
 use Rattle.cyp_kernel.proofs.OldVars.{IsOld, old_vars}
 use Rattle.cyp_kernel.proofs.Opened.{number_old, opened, opened_old}
+use Rattle.cyp_kernel.proofs.OpenedSmall.{SmallCards, get_small, opened_small}
 use Rattle.cyp_kernel.proofs.OpenedHolds.{card_there, entry_holds}
 use Rattle.cyp_kernel.proofs.SteadyParts.{chunk_sorted_at, chunk_vars_among, pre_chunk_fits, sorted_goal}
 use Rattle.cyp_kernel.specs.Meets.{BodyMeets}
@@ -44,47 +46,49 @@ use Rattle.cyp_step.specs.Changes.{next_of, pre_of}
 use Rattle.cyp_step.specs.Unfolding.{is_testable, open_link, open_premise, raw_open}
 use Rattle.cyp_step.specs.declared.rule.Rule.TheVariants.{ByOpen}
 use Rattle.cyp_term.proofs.Lists.{Among, Among-right, each_at, each_from, flat_in, flat_out}
+use Rattle.cyp_term.specs.Terms.{sort_eq}
+use Rattle.cyp_term.specs.declared.term.Sort.TheVariants.{Card}
 use Rattle.cyp_term.specs.Meaning.{Assignment, Truth}
 use Rattle.cyp_term.specs.declared.lit.Lit.{Lit}
 use Rattle.cyp_term.specs.declared.term.Var.{Var}
 
 -- ---- lists
 
-without_among : {A : Type 0} (x : A) (xs : List A) (i : ℕ) → Among x (without xs i) → Among x xs
+pub without_among : {A : Type 0} (x : A) (xs : List A) (i : ℕ) → Among x (without xs i) → Among x xs
 without_among x [] i h = absurd h
 without_among x (y ∷ xs) zero h = inr h
 without_among x (y ∷ xs) (suc i) (inl e) = inl e
 without_among x (y ∷ xs) (suc i) (inr h) = inr (without_among x xs i h)
 
-map_at : {A B : Type 0} (f : A → B) (xs : List A) (k : ℕ) (x : A) → slice_get xs k ≡ Some x → slice_get (map f xs) k ≡ Some (f x)
+pub map_at : {A B : Type 0} (f : A → B) (xs : List A) (k : ℕ) (x : A) → slice_get xs k ≡ Some x → slice_get (map f xs) k ≡ Some (f x)
 map_at f [] k x e = absurd (none-some x e)
 map_at f (y ∷ xs) zero x e = ap (λ z. Some (f z)) (same_Some y x e)
 map_at f (y ∷ xs) (suc k) x e = map_at f xs k x e
 
-map_out : {A B : Type 0} (f : A → B) (xs : List A) (k : ℕ) (y : B) → slice_get (map f xs) k ≡ Some y → (x : A) × (slice_get xs k ≡ Some x) × (y ≡ f x)
+pub map_out : {A B : Type 0} (f : A → B) (xs : List A) (k : ℕ) (y : B) → slice_get (map f xs) k ≡ Some y → (x : A) × (slice_get xs k ≡ Some x) × (y ≡ f x)
 map_out f [] k y e = absurd (none-some y e)
 map_out f (x ∷ xs) zero y e = (x, refl, sym (same_Some (f x) y e))
 map_out f (x ∷ xs) (suc k) y e = map_out f xs k y e
 
-all_mapped : {A B : Type 0} (f : A → B) (p : B → Bool) (xs : List A) → list_all (λ x. p (f x)) xs ≡ true → list_all p (map f xs) ≡ true
+pub all_mapped : {A B : Type 0} (f : A → B) (p : B → Bool) (xs : List A) → list_all (λ x. p (f x)) xs ≡ true → list_all p (map f xs) ≡ true
 all_mapped f p [] h = refl
 all_mapped f p (x ∷ xs) h = let both = and_parts (p (f x)) (list_all (λ y. p (f y)) xs) h in and_from (p (f x)) (list_all p (map f xs)) both.0 (all_mapped f p xs both.1)
 
 -- the premise at a place and its body
-meets_at : (ps : List Procedure) (names : Names) (k : ℕ) (ms : List Node) (bs : List Body) (i : ℕ) (m : Node) → AllMeet ps names k ms bs → slice_get ms i ≡ Some m
+pub meets_at : (ps : List Procedure) (names : Names) (k : ℕ) (ms : List Node) (bs : List Body) (i : ℕ) (m : Node) → AllMeet ps names k ms bs → slice_get ms i ≡ Some m
     → (b : Body) × (slice_get bs i ≡ Some b) × BodyMeets ps m.preds m.goal names k b
 meets_at ps names k [] bs i m a e = absurd (none-some m e)
 meets_at ps names k (x ∷ ms) [] i m a e = absurd a
 meets_at ps names k (x ∷ ms) (b ∷ bs) zero m a e = (b, refl, subst (λ (y : Node). BodyMeets ps y.preds y.goal names k b) (same_Some x m e) a.0)
 meets_at ps names k (x ∷ ms) (b ∷ bs) (suc i) m a e = meets_at ps names k ms bs i m a.1 e
 
-abbrev guard_of : Unfolded → Lit
+abbrev pub guard_of : Unfolded → Lit
 guard_of u = u.guard
 
-abbrev premise_of : Node → ℕ → InstOf → Unfolded → Node
+abbrev pub premise_of : Node → ℕ → InstOf → Unfolded → Node
 premise_of n i j = open_premise n i (open_link n i j)
 
-open_parts : (n : Node) (i : ℕ) (o : Option Chunk) (ms : List Node) → raw_open n i o ≡ Some ms
+pub open_parts : (n : Node) (i : ℕ) (o : Option Chunk) (ms : List Node) → raw_open n i o ≡ Some ms
     → (j : InstOf) × (o ≡ Some (Inst j)) × (list_all (λ (u : Unfolded). is_testable n.goal u.guard) (unfold_inst n.preds j (next_of n)) ≡ true)
     × (ms ≡ map (premise_of n i j) (unfold_inst n.preds j (next_of n)))
 open_parts n i (Some (Inst j)) ms is =
@@ -95,31 +99,42 @@ open_parts n i o ms is = cc
 -- the node with its instance, and a heap of its precondition
 module _ (n : Node) (steady : IsSteady n) (formed : IsFormedPreds n.preds) (i : ℕ) (j : InstOf) (at : slice_get (pre_of n) i ≡ Some (Inst j)) (s : Assignment) (h : Store) (ns : List ℕ)
     (pre : SideHolds n.preds s n.goal.pure_pre n.goal.pre.chunks h ns) where
-  abbrev inst : Instances
+  abbrev pub inst : Instances
   inst = InstanceHolds n.preds
 
-  abbrev next : Next
+  abbrev pub next : Next
   next = next_of n
 
   -- what the instance's heap and the clause that holds there give
-  record OpenedNode : Type 0 where
-    pred : Pred
-    pred_is : slice_get n.preds.list j.pred ≡ Some pred
-    place : ℕ
-    clause : Clause
-    clause_is : slice_get pred.clauses place ≡ Some clause
+  pub record OpenedNode : Type 0 where
+    pub pred : Pred
+    pub pred_is : slice_get n.preds.list j.pred ≡ Some pred
+    pub place : ℕ
+    pub clause : Clause
+    pub clause_is : slice_get pred.clauses place ≡ Some clause
     -- its guard is true, and no other is
-    guard : Truth s (unfold_clause j next clause).guard
-    alone : (k : ℕ) (d : Clause) → slice_get pred.clauses k ≡ Some d → Truth s (unfold_clause j next d).guard → k ≡ place
+    pub guard : Truth s (unfold_clause j next clause).guard
+    pub alone : (k : ℕ) (d : Clause) → slice_get pred.clauses k ≡ Some d → Truth s (unfold_clause j next d).guard → k ≡ place
     -- values for which the premise's precondition holds, and with which the old variables keep theirs
-    values : Assignment
-    numbers : (v : Var) → IsOld next v → s.number v ≡ values.number v
-    kept : EachPart (AgreeAt s values) n
-    heights : List ℕ
-    holds : SideHolds n.preds values (n.goal.pure_pre ++ ((unfold_clause j next clause).guard ∷ (unfold_clause j next clause).lits))
+    pub values : Assignment
+    pub numbers : (v : Var) → IsOld next v → s.number v ≡ values.number v
+    pub kept : EachPart (AgreeAt s values) n
+    pub heights : List ℕ
+    -- where the cardinalities are small before, so are they after
+    pub small : (z : ℕ) → SmallCards z s → SmallCards z values
+    pub holds : SideHolds n.preds values (n.goal.pure_pre ++ ((unfold_clause j next clause).guard ∷ (unfold_clause j next clause).lits))
         (put_all (without (pre_of n) i) (unfold_clause j next clause).heap.chunks) h heights
 
-  opened_node : OpenedNode
+  below : (a b m k z : ℕ) → a ≤ b → m ≡ b → pos k ≡ pos m → k ≤ z → a ≤ z
+  below a b m k z p q e l = most a b m k z p q (same k m e) l
+    where
+      same : (k m : ℕ) → pos k ≡ pos m → k ≡ m
+      same k m e = cc
+
+      most : (a b m k z : ℕ) → a ≤ b → m ≡ b → k ≡ m → k ≤ z → a ≤ z
+      most a b m k z p q r l = omega arith
+
+  pub opened_node : OpenedNode
   opened_node =
       let sorted = sorted_goal n steady in
       let fit = pre_chunk_fits n steady i (Inst j) at in
@@ -166,6 +181,11 @@ module _ (n : Node) (steady : IsSteady n) (formed : IsFormedPreds n.preds) (i : 
         numbers = olds;
         kept = parts;
         heights = whole.0;
+        small = λ z cards.
+            let is_card : sort_eq card.0.sort Card ≡ true = subst (λ (o : Option Var). is_card_var o ≡ true) card.1 fit.1 in
+            let known = cards card.0 is_card in
+            opened_small next (length (int_args j.args)) (length (set_args j.args)) hs s w z cards
+            (λ d. below (get_or hs d 0) (height_above hs) m known.0 z (get_small hs d) clause.9 (sym known.1 ∙ subst (λ (o : Option Var). CardIs s o m) card.1 out.one.2) known.2);
         holds = (
           true_join t n.goal.pure_pre ((unfold_clause j next c).guard ∷ (unfold_clause j next c).lits) (lits_by_vars s t n.goal.pure_pre sorted.pure_pre parts.pure_pre pre.0) entry.lits,
           whole.1,

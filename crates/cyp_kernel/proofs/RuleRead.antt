@@ -43,13 +43,13 @@ use Rattle.cyp_term.specs.declared.lit.Lit.TheVariants.{Eq}
 use Rattle.cyp_term.specs.declared.term.Sort.TheVariants.{Int}
 use Rattle.cyp_term.specs.declared.term.Var.{Var}
 
-abbrev read_node : Node → ℕ → CellAt → Node
+abbrev pub read_node : Node → ℕ → CellAt → Node
 read_node n i c =
     let y : Var = new_int n in
     let m : Node = add_pre n (Eq (var_term y) c.content ∷ []) (slice_set (pre_of n) i (Cell (record { at = c.at; content = var_term y }))) in
     record m { goal = record m.goal { program = n.goal.program ++ y ∷ [] } }
 
-read_parts : (n : Node) (i : ℕ) (o : Option Chunk) (ms : List Node) → raw_read n i o ≡ Some ms
+pub read_parts : (n : Node) (i : ℕ) (o : Option Chunk) (ms : List Node) → raw_read n i o ≡ Some ms
     → (c : CellAt) × (o ≡ Some (Cell c)) × (is_program_expr n.goal c.at ≡ true) × (ms ≡ read_node n i c ∷ [])
 read_parts n i (Some (Cell c)) ms is =
     let a = where_true_parts _ _ ms is in

@@ -27,20 +27,20 @@ use Rattle.cyp_step.specs.declared.rule.Rule.TheVariants.{ByWrite}
 use Rattle.cyp_term.specs.Meaning.{value}
 use Rattle.cyp_unify.specs.Frames.{focus}
 
-abbrev written_node : Node → ℕ → CellAt → CellAt → Node
+abbrev pub written_node : Node → ℕ → CellAt → CellAt → Node
 written_node n i c f = add_pre n [] (slice_set (pre_of n) i (Cell (record { at = c.at; content = f.content })))
 
 -- the focus is a cell, the chunk is a cell, both are given by program expressions, and the content is put into the cell
-record Writes (n : Node) (i : ℕ) (fo co : Option Chunk) (ms : List Node) : Type 0 where
-  focus : CellAt
-  cell : CellAt
-  focus_is : fo ≡ Some (Cell focus)
-  cell_is : co ≡ Some (Cell cell)
-  address : is_program_expr n.goal cell.at ≡ true
-  content : is_program_expr n.goal focus.content ≡ true
-  premise : ms ≡ written_node n i cell focus ∷ []
+pub record Writes (n : Node) (i : ℕ) (fo co : Option Chunk) (ms : List Node) : Type 0 where
+  pub focus : CellAt
+  pub cell : CellAt
+  pub focus_is : fo ≡ Some (Cell focus)
+  pub cell_is : co ≡ Some (Cell cell)
+  pub address : is_program_expr n.goal cell.at ≡ true
+  pub content : is_program_expr n.goal focus.content ≡ true
+  pub premise : ms ≡ written_node n i cell focus ∷ []
 
-write_parts : (n : Node) (i : ℕ) (fo co : Option Chunk) (ms : List Node) → raw_write n i fo co ≡ Some ms → Writes n i fo co ms
+pub write_parts : (n : Node) (i : ℕ) (fo co : Option Chunk) (ms : List Node) → raw_write n i fo co ≡ Some ms → Writes n i fo co ms
 write_parts n i (Some (Cell f)) (Some (Cell c)) ms is =
     let a = taken_true _ _ ms is in
     let b = taken_true _ _ ms a.1 in

@@ -9,7 +9,8 @@ use Rattle.cyp_goal.proofs.SolveLeaves.{apart, cond_other, post_at, pre_at}
 use Rattle.cyp_goal.proofs.SolvedLits.{solved_eq-by}
 use Rattle.cyp_goal.specs.Normal.{solve}
 use Rattle.cyp_goal.specs.Raw.{chunk_fits, images_fit, lit_fits, term_fits}
-use Rattle.cyp_goal.specs.Solving.{bind_int, bind_set, first_solved, is_logical, solve_post, solve_pre, solved_any, solved_eq, substitute, wide_subst, with_post, with_pre}
+use Rattle.cyp_goal.specs.Solving.{bind_int, bind_set, first_solved, is_logical, solve_post, solve_pre, solved_any, solved_eq, substitute, with_post, with_pre}
+use Rattle.cyp_term.specs.Terms.{base_eq, is_set_var, sort_eq, term_vars, var_eq, var_in, wide_subst}
 use Rattle.cyp_heap.proofs.Agreement.{side_agrees}
 use Rattle.cyp_heap.specs.Chunks.{apply_chunk}
 use Rattle.cyp_heap.specs.Goals.{apply_link, apply_node, wide_node}
@@ -25,7 +26,6 @@ use Rattle.cyp_kernel.specs.Meaning.{KeepsMeaning}
 use Rattle.cyp_term.proofs.Equality.{Decides-sort_eq, Decides-var_eq}
 use Rattle.cyp_term.proofs.Lists.{each_at, each_from, map_from}
 use Rattle.cyp_term.specs.Meaning.{AllTrue, Assignment, SameMembers, Truth, base_value, image_members, image_value, int_in, set_value, under, value}
-use Rattle.cyp_term.specs.Terms.{base_eq, is_set_var, sort_eq, term_vars, var_eq, var_in}
 use Rattle.cyp_term.specs.declared.lit.Lit.{Lit}
 use Rattle.cyp_term.specs.declared.lit.SetTerm.{SetTerm}
 use Rattle.cyp_term.specs.declared.subst.Subst.{Subst}

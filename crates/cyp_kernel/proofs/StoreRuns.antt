@@ -61,7 +61,7 @@ abbrev pub mended : List Chunk → List Mend → List Chunk
 mended cs [] = cs
 mended cs (m ∷ ms) = mended (put_content cs m.cell m.value) ms
 
-put_content-cell : (cs : List Chunk) (i : ℕ) (c : CellAt) (x : Term) → slice_get cs i ≡ Some (Cell c) → slice_set cs i (Cell (record { at = c.at; content = x })) ≡ put_content cs i x
+pub put_content-cell : (cs : List Chunk) (i : ℕ) (c : CellAt) (x : Term) → slice_get cs i ≡ Some (Cell c) → slice_set cs i (Cell (record { at = c.at; content = x })) ≡ put_content cs i x
 put_content-cell [] i c x e = absurd (none-some (Cell c) e)
 put_content-cell (Cell d ∷ cs) zero c x e = ap (λ (o : Option Term). content_at o ∷ cs) (ap address_of (sym e))
   where
@@ -73,7 +73,7 @@ put_content-cell (Block b ∷ cs) zero c x e = cc
 put_content-cell (d ∷ cs) (suc i) c x e = ap (λ ds. d ∷ ds) (put_content-cell cs i c x e)
 
 -- no address changes
-addresses_kept : (cs : List Chunk) (i : ℕ) (x : Term) (k : ℕ) → address_of (slice_get (put_content cs i x) k) ≡ address_of (slice_get cs k)
+pub addresses_kept : (cs : List Chunk) (i : ℕ) (x : Term) (k : ℕ) → address_of (slice_get (put_content cs i x) k) ≡ address_of (slice_get cs k)
 addresses_kept [] i x k = refl
 addresses_kept (Cell c ∷ cs) zero x zero = refl
 addresses_kept (Cell c ∷ cs) zero x (suc k) = refl
@@ -82,13 +82,13 @@ addresses_kept (Block b ∷ cs) zero x k = refl
 addresses_kept (d ∷ cs) (suc i) x zero = refl
 addresses_kept (d ∷ cs) (suc i) x (suc k) = addresses_kept cs i x k
 
-cell_with : (o : Option Chunk) (a : Term) → address_of o ≡ Some a → (c : CellAt) × (o ≡ Some (Cell c)) × (c.at ≡ a)
+pub cell_with : (o : Option Chunk) (a : Term) → address_of o ≡ Some a → (c : CellAt) × (o ≡ Some (Cell c)) × (c.at ≡ a)
 cell_with None a e = absurd (none-some a e)
 cell_with (Some (Inst i)) a e = absurd (none-some a e)
 cell_with (Some (Block b)) a e = absurd (none-some a e)
 cell_with (Some (Cell c)) a e = (c, refl, same_Some c.at a e)
 
-by_address : (o : Option Term) (f : Term → Bool) → elim o [ None ↦ false | Some a ↦ f a ] ≡ true → (a : Term) × (o ≡ Some a) × (f a ≡ true)
+pub by_address : (o : Option Term) (f : Term → Bool) → elim o [ None ↦ false | Some a ↦ f a ] ≡ true → (a : Term) × (o ≡ Some a) × (f a ≡ true)
 by_address None f e = absurd (false≢true e)
 by_address (Some a) f e = (a, refl, e)
 

@@ -5,5 +5,3 @@ mod rows;
 
 pub use rows::relax_row;
 
-#[cfg(test)]
-mod tests;

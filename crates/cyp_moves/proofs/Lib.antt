@@ -1,1 +1,5 @@
+mod BuiltTable
+mod EachRow
 mod Examples
+mod FewPremises
+mod PricedRows

@@ -32,6 +32,9 @@ is_built ByEmp = true
 is_built (ByRead i) = true
 is_built (ByFrame i) = true
 is_built (ByWrite i) = true
+is_built (ByFree i) = true
+is_built ByAlloc = true
+is_built (ByPick u) = true
 is_built _ = false
 
 -- every kind of row

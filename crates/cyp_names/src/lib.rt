@@ -22,5 +22,3 @@ pub use scope::Scope;
 pub use scopes::{clause_scope, goal_scope, universal_scope};
 pub use uses::{NamedUse, Order};
 
-#[cfg(test)]
-mod tests;

@@ -11,5 +11,3 @@ mod sorts;
 pub use entail::{entails, satisfiable};
 pub use limits::fits;
 
-#[cfg(test)]
-mod tests;

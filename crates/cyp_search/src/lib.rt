@@ -9,8 +9,6 @@ mod growing;
 mod laws;
 mod outlook;
 mod plain_search;
-#[cfg(test)]
-mod tests;
 
 pub use laws::{report_is_of_the_least_stage, report_is_unique, stages_are_numbered};
 pub use plain_search::search;

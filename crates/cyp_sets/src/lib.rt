@@ -11,5 +11,3 @@ mod sets;
 
 pub use sets::{regions, regions_with};
 
-#[cfg(test)]
-mod tests;

@@ -7,5 +7,3 @@ pub use cyp_text::Spec;
 pub use cyp_writing::write_spec;
 pub use read::read_spec;
 
-#[cfg(test)]
-mod tests;

@@ -23,12 +23,12 @@ use Rattle.cyp_unify.specs.Frames.{frame_pairs}
 
 -- ---- cells taken and made
 
-without_cells_kept : (P : Chunk → Type 0) (ts : List Term) (cs : List Chunk) → AllByRecursion P cs → IfSome (without_cells ts cs) (AllByRecursion P)
+pub without_cells_kept : (P : Chunk → Type 0) (ts : List Term) (cs : List Chunk) → AllByRecursion P cs → IfSome (without_cells ts cs) (AllByRecursion P)
 without_cells_kept P [] cs h = h
 without_cells_kept P (t ∷ ts) cs h =
     by_option (first_place (is_written_at t) 0 cs) (λ e. rw (e, without_cells) tt) (λ k e. rw (e, without_cells) (without_cells_kept P ts (without cs k) (Every-without P cs k h)))
 
-new_cells_pass : (p q : InstOf → Bool) (t : Term) (j : ℕ) (vs : List Term) → AllByRecursion (InstPasses p q) (new_cells t j vs)
+pub new_cells_pass : (p q : InstOf → Bool) (t : Term) (j : ℕ) (vs : List Term) → AllByRecursion (InstPasses p q) (new_cells t j vs)
 new_cells_pass p q t j [] = tt
 new_cells_pass p q t j (v ∷ vs) = (tt, new_cells_pass p q t (suc j) vs)
 

@@ -24,7 +24,7 @@ module _ {A : Type 0} (eq : A → A → Bool) (p : A → Bool) where
   with_all_new_more xs [] = le_refl (length (filter p xs))
   with_all_new_more xs (y ∷ ys) = le_trans (with_new_more xs y) (with_all_new_more (with_new eq xs y) ys)
 
-  append_more : (zs xs ys : List A) → length (filter p (with_all_new eq zs xs)) ≤ length (filter p (with_all_new eq zs (xs ++ ys)))
+  pub append_more : (zs xs ys : List A) → length (filter p (with_all_new eq zs xs)) ≤ length (filter p (with_all_new eq zs (xs ++ ys)))
   append_more zs [] ys = with_all_new_more zs ys
   append_more zs (x ∷ xs) ys = append_more (with_new eq zs x) xs ys
 

@@ -1,10 +1,16 @@
 pub mod Shown
+pub mod Following
+pub mod NodeGoals
+pub mod RuleKinds
 pub mod Changes
 pub mod FlatRules
+pub mod FlatGoals
 pub mod Unfolding
 pub mod Mends
 pub mod Calling
 pub mod Step
 pub mod Rows
+pub mod Trying
 pub mod Nodes
 pub mod Laws
+pub mod Examples

@@ -1,11 +1,28 @@
 //! The step relation: rules, what is shown at a goal, and the premises of a rule at a node.
 #![tactic(auto)]
 
+mod allocating;
+mod existentials;
+mod flat_goals;
+mod flat_rules;
+mod framing;
 mod laws;
+mod narrow;
+mod next;
+mod occurs;
+mod rows;
 mod rule;
+mod showing;
+mod steps;
 
+pub use existentials::first_exist;
 pub use laws::{
     left_nodes_are_raw, premises_are_nodes, premises_are_well_linked, root_is_node,
     root_is_well_linked,
 };
+pub use occurs::goal_vars;
+pub use rows::{Tried, add_row, row, rows_of, try_rule};
 pub use rule::{CallBy, Row, Rule};
+pub use showing::{dead, shown};
+pub use steps::{is_step, premises_of};
+

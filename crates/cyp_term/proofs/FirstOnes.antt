@@ -1,9 +1,9 @@
 -- The items of a list that stand there for the first time are the list without repeats.
-use Rattle.std.proofs.Common.{◌≡◌, ◌∙◌, ◌||◌, ◌≤◌, ◌<◌, ◌+◌, [], ◌∷◌, ◌++◌, Bool, Decides, List, ℕ, arith, false, get_or, length, suc, take, true, not, refl, ap, sym}
+use Rattle.std.proofs.Common.{◌≡◌, ◌∙◌, ◌||◌, ◌≤◌, ◌<◌, ◌+◌, [], ◌∷◌, ◌++◌, Bool, Decides, List, ℕ, arith, false, get_or, length, suc, take, drop, true, not, refl, ap, sym}
 use Rattle.std.specs.List.{items_where_true, list_any}
 use Rattle.std.proofs.lemmas.Bool.{cond-false, cond-true}
 use Rattle.std.proofs.lemmas.Bool.Decides.{same_from_decides}
-use Rattle.std.proofs.lemmas.List.{append_assoc, append-nil, take_more}
+use Rattle.std.proofs.lemmas.List.{append_assoc, append-nil, length-append, take-append-drop, take_more}
 use Rattle.std.proofs.lemmas.List.Folds.{list_any-append}
 use Rattle.cyp_term.proofs.Repeats.{with_all_new_append}
 use Rattle.cyp_term.specs.Once.{IsOnce, are_new}
@@ -92,3 +92,33 @@ module _ {A : Type 0} (eq : A → A → Bool) where
     -- the items that are told to be new are the list without repeats
     pub ones_told : ((x y : A) → Decides (eq x y) (x ≡ y)) → (once : List A) → once ≡ items_where_true answers xs → IsOnce xs once
     ones_told decides once chosen = once_by_each eq decides xs once (chosen ∙ ap (λ bs. items_where_true bs xs) all_told ∙ first_ones eq decides xs)
+
+module _ {A : Type 0} (eq : A → A → Bool) where
+  shorter_by : (xs : List A) (x : A) (b : Bool) → list_any (eq x) xs ≡ b → length (with_new eq xs x) ≤ length xs + 1
+  shorter_by xs x true e = let same : length (with_new eq xs x) ≡ length xs = ap length (cond-true (list_any (eq x) xs) xs (xs ++ x ∷ []) e) in omega (arith, same)
+  shorter_by xs x false e =
+      let same : length (with_new eq xs x) ≡ length xs + 1 = ap length (cond-false (list_any (eq x) xs) xs (xs ++ x ∷ []) e) ∙ length-append xs (x ∷ []) in omega (arith, same)
+
+  -- a list that others are added to grows by one each at most
+  no_longer : (xs ys : List A) → length (with_all_new eq xs ys) ≤ length xs + length ys
+  no_longer xs [] = omega arith
+  no_longer xs (y ∷ ys) =
+      let one : length (with_new eq xs y) ≤ length xs + 1 = shorter_by xs y (list_any (eq y) xs) refl in
+      let more : length (with_all_new eq (with_new eq xs y) ys) ≤ length (with_new eq xs y) + length ys = no_longer (with_new eq xs y) ys in
+      omega (arith, one, more)
+
+module _ {A : Type 0} (eq : A → A → Bool) (xs : List A) (i : ℕ) (x : A) where
+  -- where an item stands among those before it, the list without repeats is another
+  pub repeat_shows : without_repeats eq (take i xs) ≡ take i xs → i < length xs → x ≡ get_or xs i x → list_any (eq x) (take i xs) ≡ true → xs ≡ without_repeats eq xs → ⊥
+  repeat_shows h lt is there whole =
+      let start : List A = take i xs in
+      let rest : List A = drop (i + 1) xs in
+      let split : xs ≡ (start ++ x ∷ []) ++ rest = sym (take-append-drop (i + 1) xs) ∙ ap (λ ys. ys ++ rest) (next eq xs i x lt is) in
+      let short : without_repeats eq xs ≡ with_all_new eq start rest =
+      ap (without_repeats eq) split ∙ with_all_new_append eq [] (start ++ x ∷ []) rest
+      ∙ ap (λ ys. with_all_new eq ys rest) (with_all_new_append eq [] start (x ∷ []) ∙ ap (λ ys. with_new eq ys x) h ∙ cond-true (list_any (eq x) start) start (start ++ x ∷ []) there) in
+      let most : length (with_all_new eq start rest) ≤ length start + length rest = no_longer eq start rest in
+      let same : length xs ≡ length (with_all_new eq start rest) = ap length (whole ∙ short) in
+      let all : length xs ≡ length start + 1 + length rest =
+      ap length split ∙ length-append (start ++ x ∷ []) rest ∙ ap (λ n. n + length rest) (length-append start (x ∷ [])) in
+      omega (arith, most, same, all)

@@ -233,6 +233,10 @@ wide_term t = not (nat_le (nat_abs t.offset) 4294967296)
 abbrev pub wide_set : SetTerm → Bool
 wide_set u = list_any wide_term u.elems
 
+-- an image of the substitution has an offset past 2 ^ 32
+abbrev pub wide_subst : Subst → Bool
+wide_subst by = list_any (λ (b : IntBind). wide_term b.to) by.ints || list_any (λ (b : SetBind). wide_set b.to) by.sets
+
 -- some term of the literal has an offset of more than 2 ^ 32 in size
 abbrev pub wide_lit : Lit → Bool
 wide_lit (Eq a b) = wide_term a || wide_term b

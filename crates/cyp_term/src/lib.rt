@@ -13,8 +13,6 @@ mod shared;
 mod steps;
 mod subst;
 mod term;
-#[cfg(test)]
-mod tests;
 mod without_repeats;
 
 pub use copied::{Copied, Exact};

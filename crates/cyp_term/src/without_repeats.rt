@@ -1,6 +1,6 @@
 //! Lists without repeats.
 
-ghost use Rattle.std.specs.Prelude.{[], ◌≡◌, ◌≤◌, ◌++◌, ◌∷◌, IfOk, OnOk, length, true};
+ghost use Rattle.std.specs.Prelude.{[], ◌≡◌, ◌≤◌, ◌++◌, ◌∷◌, ◌↔◌, IfOk, OnOk, length, true};
 ghost use Rattle.std.specs.List.{items_where_true, list_any};
 ghost use Rattle.cyp_term.specs.Once.{IsOnce, are_new};
 
@@ -22,7 +22,7 @@ fn is_among<T: Exact>(item: &T, items: &[T]) -> bool
 
 /// Whether the items are few, eight at most, and no two are the same.
 pub fn few_differ<T: Exact>(items: &[T]) -> bool
-    ensures { result ≡ true → IsOnce items.now items.now }
+    ensures { result ≡ true ↔ (length items.now ≤ 8) × IsOnce items.now items.now }
 {
     if items.len() > FEW {
         return false;

@@ -27,5 +27,3 @@ pub use tree::{
 };
 pub use whole_text::parse;
 
-#[cfg(test)]
-mod tests;

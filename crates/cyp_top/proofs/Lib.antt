@@ -2,6 +2,7 @@ pub mod ChainExamples
 pub mod Examples
 pub mod ListExamples
 pub mod Outputs
+pub mod Roots
 mod RowsCells
 mod RowsChain
 mod RowsEdges

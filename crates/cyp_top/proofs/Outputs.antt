@@ -1,8 +1,6 @@
 -- The output of a text: it is one, and what the code says is it.
-use Rattle.std.proofs.Common.{Bool, Err, IfOk, List, None, Ok, Result, Some, ap, cond, false, refl, subst, sym, true, ℕ, ◌∙◌, ◌≡◌}
-use Rattle.std.proofs.lemmas.Option.{none-some, same_Some}
+use Rattle.std.proofs.Common.{Bool, Err, IfOk, List, Ok, Result, ap, false, subst, sym, true, ℕ, ◌∙◌, ◌≡◌}
 use Rattle.std.proofs.lemmas.Result.{IfOk-weaker}
-use Rattle.cyp_cell_goal.specs.FlatGoals.{flat_root, is_flat, root_of}
 use Rattle.cyp_heap.specs.declared.goal.Node.{Node}
 use Rattle.cyp_lex.specs.declared.fault.Fault.{Fault}
 use Rattle.cyp_search.proofs.FoundFollows.{found_follows}
@@ -17,8 +15,9 @@ use Rattle.cyp_text.proofs.Unique.{one_reading}
 use Rattle.cyp_text.specs.Specifications.{Specification}
 use Rattle.cyp_top.specs.Given.{IsFoundVerdict, plain_answer}
 use Rattle.cyp_top.specs.Lines.{Output, output, verdict_output}
-use Rattle.cyp_top.specs.Output.{IsOutputBy, IsSynthOutput, goal_space, search_report, specification_output, synth_output}
+use Rattle.cyp_top.specs.Output.{IsOutputBy, IsSynthOutput, goal_space, specification_output, synth_output}
 use Rattle.cyp_top.specs.Reports.{fault_name, refused_at}
+use Rattle.cyp_top.specs.Roots.{root_of}
 use Rattle.cyp_top.specs.declared.answer.Answer.{Answer}
 use Rattle.cyp_top.specs.declared.status.Status.TheVariants.{Refused}
 
@@ -26,16 +25,6 @@ use Rattle.cyp_top.specs.declared.status.Status.TheVariants.{Refused}
 pub one_output : (synth : Bool) (bytes : List ℕ) (a b : Output) → IsOutputBy synth bytes a → IsOutputBy synth bytes b → a ≡ b
 one_output false bytes a b h k = h ∙ sym k
 one_output true bytes a b h k = h.2 ∙ ap synth_output (one_reading one_tree bytes h.0 k.0 h.1 k.1) ∙ sym k.2
-
--- ---- roots
-
-root_by : (b : Bool) (m n : Node) → cond b (Some m) None ≡ Some n → (b ≡ true) × (n ≡ m)
-root_by true m n e = (refl, sym (same_Some m n e))
-root_by false m n e = absurd (none-some n e)
-
-no_root_by : (b : Bool) (m : Node) → cond b (Some m) None ≡ None → b ≡ false
-no_root_by true m e = absurd (none-some m (sym e))
-no_root_by false m e = refl
 
 -- ---- verdicts
 
@@ -50,22 +39,11 @@ is_found n v r e h = found_by n v (sym (h ∙ ap (λ (s : PlainReport Rule Node)
 
 -- ---- specifications
 
--- the output by the test of flat specifications
-abbrev output_where : Specification → Bool → Output
-output_where s b = cond b (verdict_output s.name (search_report s).verdict) (verdict_output s.name NoneFound)
-
--- a specification without a root has no program
-pub no_program : (s : Specification) → None ≡ flat_root s → verdict_output s.name NoneFound ≡ specification_output s
-no_program s e = ap (output_where s) (sym (no_root_by (is_flat s) (root_of s) (sym e)))
-
 -- what is said by the report from the root is the output
-pub is_output : (s : Specification) (n : Node) (r : PlainReport Rule Node) (o : Output) → Some n ≡ flat_root s
+pub is_output : (s : Specification) (n : Node) (r : PlainReport Rule Node) (o : Output) → n ≡ root_of s
     → r ≡ report (goal_space 2) 20000 500000 n → o ≡ verdict_output s.name r.verdict → o ≡ specification_output s
 is_output s n r o root e said =
-    let found : (is_flat s ≡ true) × (n ≡ root_of s) = root_by (is_flat s) (root_of s) n (sym root) in
-    said
-    ∙ ap (λ (q : PlainReport Rule Node). verdict_output s.name q.verdict) (e ∙ ap (report (goal_space 2) 20000 500000) found.1)
-    ∙ ap (output_where s) (sym found.0)
+    said ∙ ap (λ (q : PlainReport Rule Node). verdict_output s.name q.verdict) (e ∙ ap (report (goal_space 2) 20000 500000) root)
 
 -- ---- texts
 

@@ -3,7 +3,7 @@ use Rattle.std.specs.Prelude.{codes}
 use Rattle.cyp_heap.specs.declared.goal.Node.{Node}
 use Rattle.cyp_step.specs.declared.rule.Rule.{Rule}
 use Rattle.cyp_search.specs.Reports.{Found, PlainVerdict}
-use Rattle.cyp_cell_print.specs.Found.{IsFound}
+use Rattle.cyp_print.specs.Found.{IsFound}
 use Rattle.cyp_top.specs.declared.answer.Answer.{Answer}
 use Rattle.cyp_top.specs.declared.answer.Answer.TheVariants as answers
 use Rattle.cyp_top.specs.declared.status.Status.TheVariants.{NoProgram, Program, Refused, Spent}

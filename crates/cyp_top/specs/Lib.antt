@@ -5,6 +5,7 @@ pub mod Given
 pub mod Lines
 pub mod Output
 pub mod Reports
+pub mod Roots
 pub mod RunOutput
 pub mod Synthesis
 pub mod WholeOutput

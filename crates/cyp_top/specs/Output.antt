@@ -1,16 +1,16 @@
 -- What the program writes and answers for words and bytes.
-use Rattle.std.specs.Prelude.{◌≡◌, ◌∷◌, [], Bool, Err, List, Ok, Result, codes, cond, false, nat_eq, true, ℕ}
+use Rattle.std.specs.Prelude.{◌≡◌, ◌∷◌, [], Bool, Err, List, Ok, Result, codes, false, nat_eq, true, ℕ}
 use Rattle.std.specs.Cmp.Lexicographic.{pointwise}
-use Rattle.cyp_cell_goal.specs.FlatGoals.{is_flat, root_of}
 use Rattle.cyp_heap.specs.declared.goal.Node.{Node}
 use Rattle.cyp_lex.specs.declared.fault.Fault.{Fault}
 use Rattle.cyp_moves.specs.Moves.{moves, weight}
-use Rattle.cyp_search.specs.Reports.{NoneFound, PlainReport, report}
+use Rattle.cyp_search.specs.Reports.{PlainReport, report}
 use Rattle.cyp_step.specs.declared.rule.Rule.{Rule}
 use Rattle.cyp_text.specs.Reading.{IsReading}
 use Rattle.cyp_text.specs.Specifications.{Specification}
 use Rattle.cyp_top.specs.Lines.{Output, verdict_output, words_refused}
 use Rattle.cyp_top.specs.Reports.{fault_name, refused_at}
+use Rattle.cyp_top.specs.Roots.{root_of}
 use Rattle.cyp_tree.specs.Trees.{Moving}
 
 -- the one word is `synth`
@@ -25,13 +25,13 @@ is_synth (word ∷ more ∷ words) = false
 abbrev pub goal_space : ℕ → Moving Rule Node
 goal_space limit = record { moves = moves limit; weight = weight }
 
--- best-first search for a flat specification, with at most 2 unfoldings, 20,000 expansions and 500,000 nodes
+-- best-first search with at most 2 unfoldings, 20,000 expansions and 500,000 nodes
 abbrev pub search_report : Specification → PlainReport Rule Node
 search_report s = report (goal_space 2) 20000 500000 (root_of s)
 
--- what the search comes to where the specification is flat; one that isn't flat has no moves yet, so there is no program
+-- what the search comes to
 abbrev pub specification_output : Specification → Output
-specification_output s = cond (is_flat s) (verdict_output s.name (search_report s).verdict) (verdict_output s.name NoneFound)
+specification_output s = verdict_output s.name (search_report s).verdict
 
 -- what is answered for a specification, or for the one fault of its text
 abbrev pub synth_output : Result Specification Fault → Output

@@ -1,6 +1,5 @@
 -- What `synth` answers for a specification, with every kind of row and the options of the command line.
-use Rattle.std.specs.Prelude.{List, None, Option, Some, [], Result, Ok, Err, ◌≡◌, ℕ}
-use Rattle.cyp_goal.specs.Normal.{Renaming, normal}
+use Rattle.std.specs.Prelude.{List, Result, Ok, Err, ◌≡◌, ℕ}
 use Rattle.cyp_heap.specs.declared.goal.Node.{Node}
 use Rattle.cyp_lex.specs.declared.fault.Fault.{Fault}
 use Rattle.cyp_moves.specs.Moves.{is_any, moves_of_kinds, weight}
@@ -10,6 +9,7 @@ use Rattle.cyp_text.specs.Specifications.{Specification}
 use Rattle.cyp_step.specs.declared.rule.Rule.{Rule}
 use Rattle.cyp_top.specs.Lines.{Output, verdict_output}
 use Rattle.cyp_top.specs.Reports.{fault_name, followed_by, refused_at, stats_if}
+use Rattle.cyp_top.specs.Roots.{root_of}
 use Rattle.cyp_tree.specs.Trees.{Moving}
 use Rattle.cyp_words.specs.Words.{Search}
 
@@ -17,22 +17,9 @@ use Rattle.cyp_words.specs.Words.{Search}
 abbrev pub whole_space : ℕ → Moving Rule Node
 whole_space limit = record { moves = moves_of_kinds is_any limit; weight = weight }
 
--- the specification's goal as a node without companions
-abbrev pub spec_node : Specification → Node
-spec_node s = record { preds = s.preds; goal = s.goal; links = [] }
-
--- the node of a normal form, or the given one where there is none
-abbrev pub node_of : Node → Option Renaming → Node
-node_of n None = n
-node_of n (Some r) = r.node
-
--- the root of the search: the normal form of the goal
-abbrev pub spec_root : Specification → Node
-spec_root s = node_of (spec_node s) (normal (spec_node s))
-
 -- best-first search with these unfoldings and this budget, and at most 500,000 nodes
 abbrev pub spec_report : ℕ → ℕ → Specification → PlainReport Rule Node
-spec_report unfoldings budget s = report (whole_space unfoldings) budget 500000 (spec_root s)
+spec_report unfoldings budget s = report (whole_space unfoldings) budget 500000 (root_of s)
 
 -- what the report says, and its lines where they are asked for
 abbrev pub report_output : Search → List ℕ → PlainReport Rule Node → Output

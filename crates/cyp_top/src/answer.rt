@@ -8,11 +8,11 @@ ghost use Rattle.cyp_search.specs.Reports.{report};
 ghost use Rattle.cyp_top.specs.declared.status.Status.TheVariants.{Usage};
 
 use crate::refusal::refusal;
+use crate::root::root_of_spec;
 use crate::status::Status;
-use cyp_cell_goal::root_of_spec;
-use cyp_cell_moves::CellsSpace;
-use cyp_cell_print::program_text;
-use cyp_cells::CellsNode;
+use cyp_heap::Node;
+use cyp_moves::GoalSpace;
+use cyp_print::program_text;
 use cyp_search::search;
 use cyp_space::{Report, Settings, Verdict};
 use cyp_spec::{Spec, read_spec};
@@ -61,10 +61,10 @@ impl Answer {
 }
 
 /// The report of the search from the root.
-pub(crate) fn report_of(alloc: Global, root: CellsNode) -> Result<Report<Rule, CellsNode>, NoMemory>
+pub(crate) fn report_of(alloc: Global, root: Node) -> Result<Report<Rule, Node>, NoMemory>
     ensures { IfOk result (λ r. plain_report r ≡ report (goal_space 2) 20000 500000 root) }
 {
-    let space = CellsSpace { unfold: 2 };
+    let space = GoalSpace { unfold: 2 };
     let root = Shared::new(alloc, root)?;
     search(alloc, &space, root, &Settings::default())
 }
@@ -73,7 +73,7 @@ pub(crate) fn report_of(alloc: Global, root: CellsNode) -> Result<Report<Rule, C
 fn verdict_answer(
     alloc: Global,
     name: &Text,
-    verdict: &Verdict<Rule, CellsNode>,
+    verdict: &Verdict<Rule, Node>,
 ) -> Result<Answer, NoMemory>
     requires { IsFoundVerdict (plain_verdict verdict.now) }
     ensures { IfOk result (λ a. plain_answer a ≡ verdict_output name.now (plain_verdict verdict.now)) }
@@ -92,9 +92,7 @@ fn verdict_answer(
 fn specification_answer(alloc: Global, spec: &Spec) -> Result<Answer, NoMemory>
     ensures { IfOk result (λ a. plain_answer a ≡ specification_output spec.now) }
 {
-    let Some(root) = root_of_spec(alloc, spec)? else {
-        return Ok(Answer::NoProgram);
-    };
+    let root = root_of_spec(alloc, spec)?;
     let report = report_of(alloc, root)?;
     verdict_answer(alloc, spec.name(), &report.verdict)
 }

@@ -4,6 +4,7 @@
 mod answer;
 mod laws;
 mod refusal;
+mod root;
 mod run;
 mod status;
 #[cfg(test)]

@@ -1,8 +1,8 @@
 ghost use Rattle.std.specs.Prelude.{◌≡◌, ◌<◌};
 
 use crate::answer::report_of;
+use crate::root::root_of_spec;
 use crate::{Status, run_still};
-use cyp_cell_goal::root_of_spec;
 use cyp_io::{MemSink, MemSource};
 use cyp_spec::read_spec;
 use cyp_term::{List, NoMemory, Steps};
@@ -15,6 +15,10 @@ const SWAP: &[u8] = b"void swap(loc x, loc y) { x :-> a ** y :-> b } { x :-> b *
 
 const SWAPPED: &[u8] =
     b"void swap(v1, v2) {\n  let v3 = *v1;\n  let v4 = *v2;\n  *v1 = v4;\n  *v2 = v3;\n}\n";
+
+const ALLOCATION: &[u8] = b"void f(loc r) { r :-> 0 } { r :-> y ** [y, 1] ** y :-> 7 }";
+
+const ALLOCATED: &[u8] = b"void f(v1) {\n  let v2 = malloc(1);\n  *v1 = v2;\n  *v2 = 7;\n}\n";
 
 const CONSTANT: &[u8] = b"void f(loc x) { x :-> a } { x :-> 5 }";
 
@@ -135,19 +139,30 @@ const ROWS: &[(&[u8], &[u8], Status)] = &[
         b"refused: TooLarge at 10\n",
         Status::Refused,
     ),
-    // Texts that are read but not flat.
+    // Texts with literals, blocks and instances.
     (
         b"void f(int n, int m) { n == m + 2147483648 ; emp } { emp }",
-        b"no program\n",
-        Status::NoProgram,
+        b"void f(v1, v2) {\n}\n",
+        Status::Program,
     ),
     (
         b"void f(loc x) { [x, 1] ** x :-> a } { emp }",
-        b"no program\n",
-        Status::NoProgram,
+        b"void f(v1) {\n  free(v1);\n}\n",
+        Status::Program,
     ),
+    (ALLOCATION, ALLOCATED, Status::Program),
     (
         b"void f(int n) { emp } { n <= e ; emp }",
+        b"void f(v1) {\n}\n",
+        Status::Program,
+    ),
+    (
+        b"predicate sll(loc x, set s) { | x == 0 => { s =i {} ; emp } | not (x == 0) => { s =i {v} ++ t ; [x, 2] ** x :-> v ** (x + 1) :-> n ** sll(n, t) } } void f(loc x) { sll(x, s) } { sll(x, s) }",
+        b"void f(v1) {\n}\n",
+        Status::Program,
+    ),
+    (
+        b"predicate sll(loc x, set s) { | x == 0 => { s =i {} ; emp } | not (x == 0) => { s =i {v} ++ t ; [x, 2] ** x :-> v ** (x + 1) :-> n ** sll(n, t) } } void f() { sll(x, s) } { emp }",
         b"no program\n",
         Status::NoProgram,
     ),
@@ -168,14 +183,14 @@ const ROWS: &[(&[u8], &[u8], Status)] = &[
     ),
     (
         b"void f(loc x) { x <=in1 ; emp } { emp }",
-        b"no program\n",
-        Status::NoProgram,
+        b"void f(v1) {\n}\n",
+        Status::Program,
     ),
     // An offset that is solved for counts, up to 2^32.
     (
         b"void f(int a) { b == a + 2147483648 && c == b + 2147483648 ; emp } { emp }",
-        b"no program\n",
-        Status::NoProgram,
+        b"void f() {\n}\n",
+        Status::Program,
     ),
     (
         b"void f(int a) { b == a + 2147483648 && c == b + 2147483648 && d == c + 1 ; emp } { emp }",
@@ -434,14 +449,12 @@ fn words_and_faults_have_their_answers(rt: HostRuntime) -> Result<(), Fail> {
     Ok(())
 }
 
-/// How many leaves the search from the text's root expands, where the text is flat.
+/// How many leaves the search from the text's root expands.
 fn expansions(alloc: Global, text: &[u8]) -> Result<Option<u32>, NoMemory> {
     let Ok(spec) = read_spec(alloc, text) else {
         return Ok(None);
     };
-    let Some(root) = root_of_spec(alloc, &spec)? else {
-        return Ok(None);
-    };
+    let root = root_of_spec(alloc, &spec)?;
     Ok(Some(report_of(alloc, root)?.expansions))
 }
 
@@ -450,6 +463,15 @@ fn searches_end_after_so_many_expansions(rt: HostRuntime) -> Result<(), Fail> {
     let alloc = rt.alloc();
     assert_eq!(rt; expansions(alloc, CONSTANT)?, Some(3));
     assert_eq!(rt; expansions(alloc, SWAP)?, Some(7));
+    assert_eq!(rt; expansions(alloc, ALLOCATION)?, Some(7));
+    assert_eq!(rt;
+        expansions(alloc, b"void f(loc x) { [x, 1] ** x :-> a } { emp }")?,
+        Some(2)
+    );
+    assert_eq!(rt;
+        expansions(alloc, b"void f(int n) { emp } { n <= e ; emp }")?,
+        Some(2)
+    );
     assert_eq!(rt;
         expansions(alloc, b"void f(loc x) { emp } { x :-> 1 }")?,
         Some(1)

@@ -1,2 +1,4 @@
 pub mod Frames
 pub mod Matches
+pub mod Meeting
+pub mod Walking

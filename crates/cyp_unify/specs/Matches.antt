@@ -2,7 +2,7 @@
 use Rattle.std.specs.Prelude.{[], ◌&&◌, ◌++◌, ◌==◌, Bool, List, None, Option, Some, cond, false, filter, filter_map, flat_map, is_some, map, neg_ℤ, not, option_map, slice_get, take, true, ◌||◌, ℕ, ◌∷◌}
 use Rattle.std.specs.List.{list_any}
 use Rattle.std.specs.Option.{option_and_then}
-use Rattle.cyp_goal.specs.Solving.{wide_subst}
+use Rattle.cyp_term.specs.Terms.{apply_set, apply_term, int_image, is_set_var, plus, set_image, term_vars, var_eq, var_in, var_term, wide_lit, wide_subst, wide_term, without_repeats}
 use Rattle.cyp_heap.specs.Goals.{goal_vars}
 use Rattle.cyp_heap.specs.declared.chunk.Arg.{Arg}
 use Rattle.cyp_heap.specs.declared.chunk.Arg.TheVariants.{Int as IntArg, Set as SetArg}
@@ -10,7 +10,6 @@ use Rattle.cyp_heap.specs.declared.chunk.Chunk.{Chunk}
 use Rattle.cyp_heap.specs.declared.chunk.Chunk.TheVariants.{Block, Cell, Inst}
 use Rattle.cyp_heap.specs.declared.goal.Link.{Link}
 use Rattle.cyp_heap.specs.declared.goal.Node.{Node}
-use Rattle.cyp_term.specs.Terms.{apply_set, apply_term, int_image, is_set_var, plus, set_image, term_vars, var_eq, var_in, var_term, wide_lit, wide_term, without_repeats}
 use Rattle.cyp_term.specs.declared.lit.Lit.{Lit}
 use Rattle.cyp_term.specs.declared.lit.Lit.TheVariants.{Eq, Same}
 use Rattle.cyp_term.specs.declared.lit.SetTerm.{SetTerm}

@@ -92,4 +92,4 @@ split-returns-in-None t c =
 pub separate-split-requires : goal.separate-split-requires
 separate-split-requires t c =
     let falls : 4 * length c.args.gaps < t = omega (arith, c.decreases) in
-    (falls, (c.requires.gaps, omega (arith, ap length c.as_slice-in-Some-2.ensures, c.narrowest-k.ensures)))
+    (falls, (c.requires.gaps, omega (arith, ap length c.as_slice-in-Some-4.ensures, c.narrowest-k.ensures)))

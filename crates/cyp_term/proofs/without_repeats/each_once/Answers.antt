@@ -7,7 +7,7 @@ use Rattle.cyp_term.specs.Once.{IsOnce}
 use Rattle.cyp_term.proofs.without_repeats.each_once.Goals as goal
 
 pub returns-then-few_differ : goal.returns-then-few_differ
-returns-then-few_differ g c = subst (λ xs. IsOnce xs xs) c.as_slice.ensures (c.few_differ.ensures c.if-few_differ.true)
+returns-then-few_differ g c = subst (λ xs. IsOnce xs xs) c.as_slice.ensures (c.few_differ.ensures.0 c.if-few_differ.true).1
 
 pub chosen-requires : goal.chosen-requires
 chosen-requires g c =

@@ -1,6 +1,0 @@
-pub mod FlatForms
-pub mod Dressing
-pub mod RawGoals
-pub mod Roots
-pub mod SmallNumbers
-mod Rows

@@ -1,2 +1,0 @@
-pub mod FlatGoals
-pub mod FlatOf

@@ -1,0 +1,4 @@
+pub mod PlaceTurns
+pub mod LeastTurns
+pub mod SortedWith
+pub mod Universals

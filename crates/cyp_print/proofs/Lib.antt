@@ -1,0 +1,17 @@
+mod BuiltMoves
+mod ChainOf
+mod OldProgram
+mod NewProgram
+mod NamesKept
+mod Steps
+mod Looking
+mod Numbering
+mod Listing
+mod ShortNumbers
+mod Appending
+mod Integers
+mod SolvedTrees
+mod Loop
+mod Whole
+mod Rows
+mod Example

@@ -1,0 +1,14 @@
+use Rattle.std.proofs.Common.{IfOk, subst, ◌≡◌}
+use Rattle.cyp_step.proofs.FlatFits.{left_fits, read_fits}
+use Rattle.cyp_step.proofs.FlatLeft.{read_done}
+use Rattle.cyp_step.proofs.flat_rules.read.Goals as goal
+
+pub left-requires : goal.left-requires
+left-requires c =
+    left_fits c.args.node.now c.goal.result.now c.in_ok-goal.goal _ c.goal.ensures.keeps c.goal.ensures.goal c.in_ok-goal.ensures
+    (λ h. read_fits c.args.node.now.preds c.goal.result.now h c.args.place c.in_ok-var.var _)
+
+pub returns : goal.returns
+returns c =
+    subst (λ x. IfOk c.left.result (λ r. r ≡ x))
+    (read_done c.args.node.now c.goal.result.now c.in_ok-var.var c.args.place c.in_ok-goal.goal c.goal.ensures.goal c.in_ok-var.ensures.value c.in_ok-goal.ensures) c.left.ensures
