@@ -14,4 +14,3 @@ pub use bounds::{Adding, Bounds};
 pub use ints::are_ints;
 pub use places::variables_of;
 pub use solver::{Value, solve, solve_with};
-

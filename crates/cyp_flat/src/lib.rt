@@ -8,4 +8,3 @@ mod places;
 
 pub use flat::flat_rows;
 pub use guesses::pick_rows;
-

@@ -27,4 +27,3 @@ pub use laws::{
     normal_under_new_names,
 };
 pub use normal_form::{Renamed, normal};
-

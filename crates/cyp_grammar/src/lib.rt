@@ -9,4 +9,3 @@ mod want;
 pub use ident::Ident;
 pub use name::Name;
 pub use want::Want;
-

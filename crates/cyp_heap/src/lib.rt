@@ -13,4 +13,3 @@ pub use laws::{
     instance_means_by_members, one_guard_is_true, side_heights_are_within_cells,
 };
 pub use pred::{Clause, Pred, Preds};
-

@@ -4,4 +4,3 @@
 mod rows;
 
 pub use rows::relax_row;
-

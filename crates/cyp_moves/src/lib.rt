@@ -9,4 +9,3 @@ mod space;
 
 pub use cost::cost_of;
 pub use space::GoalSpace;
-

@@ -21,4 +21,3 @@ pub use predicates::{param_sort, params_of, pred_named, pred_place};
 pub use scope::Scope;
 pub use scopes::{clause_scope, goal_scope, universal_scope};
 pub use uses::{NamedUse, Order};
-

@@ -9,4 +9,3 @@ mod names;
 mod program;
 
 pub use program::program_text;
-

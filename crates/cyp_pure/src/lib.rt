@@ -10,4 +10,3 @@ mod sorts;
 
 pub use entail::{entails, satisfiable};
 pub use limits::fits;
-

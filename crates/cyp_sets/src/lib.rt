@@ -10,4 +10,3 @@ mod said;
 mod sets;
 
 pub use sets::{regions, regions_with};
-

@@ -6,4 +6,3 @@ mod read;
 pub use cyp_text::Spec;
 pub use cyp_writing::write_spec;
 pub use read::read_spec;
-

@@ -25,4 +25,3 @@ pub use rows::{Tried, add_row, row, rows_of, try_rule};
 pub use rule::{CallBy, Row, Rule};
 pub use showing::{dead, shown};
 pub use steps::{is_step, premises_of};
-

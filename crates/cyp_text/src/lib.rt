@@ -26,4 +26,3 @@ pub use tree::{
     ParamTree, PartTree, PredTree, PureTree, SetTree, SortTree, TextTree,
 };
 pub use whole_text::parse;
-

@@ -12,4 +12,3 @@ mod walk;
 pub use found::{Match, Mend, Pair};
 pub use frames::frame_pairs;
 pub use pairing::match_at;
-
