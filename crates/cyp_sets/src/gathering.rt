@@ -133,14 +133,14 @@ fn with_all_terms(mut terms: Vec<Term>, lits: &[Lit]) -> Result<Vec<Term>, NoMem
 }
 
 /// The set variables of the literals, each once, in order of first occurrence.
-pub(crate) fn vars_of(alloc: Global, lits: &[Lit], more: &[Lit]) -> Result<Vec<Var>, NoMemory>
+pub fn vars_of(alloc: Global, lits: &[Lit], more: &[Lit]) -> Result<Vec<Var>, NoMemory>
     ensures { IfOk result (λ vs. vs.items ≡ all_set_vars (lits.now ++ more.now)) }
 {
     with_all_vars(with_all_vars(Vec::new(alloc), lits)?, more)
 }
 
 /// The element terms of the literals, each once, in order of first occurrence.
-pub(crate) fn terms_of(alloc: Global, lits: &[Lit], more: &[Lit]) -> Result<Vec<Term>, NoMemory>
+pub fn terms_of(alloc: Global, lits: &[Lit], more: &[Lit]) -> Result<Vec<Term>, NoMemory>
     ensures { IfOk result (λ ts. ts.items ≡ all_terms (lits.now ++ more.now)) }
 {
     with_all_terms(with_all_terms(Vec::new(alloc), lits)?, more)

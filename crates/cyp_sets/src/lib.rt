@@ -9,4 +9,5 @@ mod region_lists;
 mod said;
 mod sets;
 
+pub use gathering::{terms_of, vars_of};
 pub use sets::{regions, regions_with};

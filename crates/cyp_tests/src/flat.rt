@@ -3,8 +3,7 @@ ghost use Rattle.cyp_heap.specs.Chunks.{insts};
 ghost use Rattle.cyp_term.specs.TermValue.{IsTerm};
 ghost use Rattle.cyp_term.specs.declared.term.Sort.TheVariants.{Int};
 
-use crate::flat::flat_rows;
-use crate::guesses::pick_rows;
+use cyp_flat::{flat_rows, pick_rows};
 use cyp_goal::{TooLarge, normal};
 use cyp_heap::{CellAt, Chunk, Goal, Heap, Node, Preds, Raw};
 use cyp_step::{Row, Rule};

@@ -3,9 +3,7 @@ ghost use Rattle.cyp_heap.specs.Chunks.{insts};
 ghost use Rattle.cyp_term.specs.TermValue.{IsTerm};
 ghost use Rattle.cyp_term.specs.declared.term.Sort.TheVariants.{Int};
 
-use crate::draft::TooLarge;
-use crate::goal_facts::facts;
-use crate::normal_form::{Renamed, normal};
+use cyp_goal::{Renamed, TooLarge, facts, normal};
 use cyp_heap::{BlockAt, CellAt, Chunk, Goal, Heap, Link, Preds, Raw};
 use cyp_term::{
     Fail as Refused, IntBind, List, Lit, NoMemory, SetBind, SetTerm, Shared, Sort, Subst, Term, Var,

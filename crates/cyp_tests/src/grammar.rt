@@ -1,4 +1,4 @@
-use crate::name::Name;
+use cyp_grammar::Name;
 use std::test::Fail as Failed;
 
 #[test]

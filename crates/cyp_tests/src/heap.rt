@@ -3,9 +3,9 @@ ghost use Rattle.cyp_heap.specs.Chunks.{is_cell_at};
 ghost use Rattle.cyp_term.specs.TermValue.{IsTerm};
 ghost use Rattle.cyp_term.specs.declared.term.Sort.TheVariants.{Card, Int};
 
-use crate::chunk::{Arg, BlockAt, CellAt, Chunk, Heap, InstOf, TooMany};
-use crate::goal::{Goal, Link, Node, Raw};
-use crate::pred::{Clause, Pred, Preds};
+use cyp_heap::{
+    Arg, BlockAt, CellAt, Chunk, Clause, Goal, Heap, InstOf, Link, Node, Pred, Preds, Raw, TooMany,
+};
 use cyp_term::{Copied, IntBind, List, Lit, SetTerm, Shared, Sort, Subst, Term, TooWide, Var};
 use std::alloc::Global;
 use std::test::Fail;

@@ -1,6 +1,6 @@
 ghost use Rattle.std.specs.Prelude.{◌<◌};
 
-use crate::{MemSink, MemSource, Reading, StdSink, StdSource, Writing, read_all, write_all};
+use cyp_io::{MemSink, MemSource, Reading, StdSink, StdSource, Writing, read_all, write_all};
 use cyp_term::{List, NoMemory};
 use std::alloc::Global;
 use std::io::Cursor;

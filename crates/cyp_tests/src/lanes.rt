@@ -1,4 +1,4 @@
-use crate::rows::relax_row;
+use cyp_lanes::relax_row;
 
 /// One whole lane and three places after it.
 #[test]

@@ -3,9 +3,9 @@ ghost use Rattle.cyp_heap.specs.Chunks.{insts};
 ghost use Rattle.cyp_term.specs.TermValue.{IsTerm};
 ghost use Rattle.cyp_term.specs.declared.term.Sort.TheVariants.{Int};
 
-use crate::space::GoalSpace;
 use cyp_goal::{TooLarge, normal};
 use cyp_heap::{CellAt, Chunk, Goal, Heap, Node, Preds, Raw};
+use cyp_moves::GoalSpace;
 use cyp_space::{Alt, Never, Space, Stopped};
 use cyp_step::Rule;
 use cyp_term::{Fail as Refused, List, Lit, NoMemory, Shared, Sort, Term, Var};

@@ -1,7 +1,5 @@
-use crate::name_faults::name_fault;
-use crate::scope::Scope;
-use crate::scopes::{clause_scope, goal_scope, universal_scope};
 use cyp_lex::{Fault, FaultKind, tokens};
+use cyp_names::{Scope, clause_scope, goal_scope, name_fault, universal_scope};
 use cyp_term::{Fail, NoMemory};
 use cyp_text::{TextTree, parse};
 use std::alloc::Global;

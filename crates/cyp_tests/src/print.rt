@@ -4,8 +4,8 @@ ghost use Rattle.cyp_print.specs.Examples.{before, cell_with, done, end_proof, e
 ghost use Rattle.cyp_term.specs.TermValue.{IsTerm};
 ghost use Rattle.cyp_tree.specs.Derivations.{Derived, plain_derivation, plain_derivations};
 
-use crate::program_text;
 use cyp_heap::{CellAt, Chunk, Goal, Heap, Node, Preds};
+use cyp_print::program_text;
 use cyp_space::Solved;
 use cyp_step::Rule;
 use cyp_term::{List, Lit, NoMemory, Shared, Sort, Term, Text, Var};

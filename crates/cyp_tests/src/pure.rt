@@ -1,5 +1,4 @@
-use crate::entail::{entails, satisfiable};
-use crate::limits::fits;
+use cyp_pure::{entails, fits, satisfiable};
 use cyp_term::{List, Lit, SetTerm, Sort, Term, Var};
 use std::alloc::Global;
 use std::test::Fail;

@@ -1,6 +1,6 @@
 ghost use Rattle.std.specs.Prelude.{◌≡◌, [], ◌∷◌, IfOk};
 
-use crate::plain_search::search;
+use cyp_search::search;
 use cyp_space::{Alt, Moves, Report, Settings, Space, Stop, Stopped, Verdict};
 use cyp_term::{Fail, List, NoMemory, Shared};
 use std::alloc::Global;

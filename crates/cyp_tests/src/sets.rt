@@ -3,8 +3,7 @@ ghost use Rattle.cyp_term.specs.Integers.{is_int_lit};
 ghost use Rattle.cyp_term.specs.Regions.{all_set_vars, all_terms};
 ghost use Rattle.cyp_sets.specs.Asking.{AreSets};
 
-use crate::gathering::{terms_of, vars_of};
-use crate::sets::{regions, regions_with};
+use cyp_sets::{regions, regions_with, terms_of, vars_of};
 use cyp_term::{List, Lit, SetTerm, Sort, Term, Var};
 use std::alloc::Global;
 use std::test::Fail;

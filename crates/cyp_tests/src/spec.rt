@@ -1,5 +1,5 @@
-use crate::{read_spec, write_spec};
 use cyp_lex::{Fault, FaultKind};
+use cyp_spec::{read_spec, write_spec};
 use cyp_term::{Fail as Refusal, NoMemory, Text};
 use std::alloc::Global;
 use std::test::Fail;

@@ -5,11 +5,9 @@ ghost use Rattle.cyp_step.specs.RuleKinds.{IsFlatRule};
 ghost use Rattle.cyp_term.specs.TermValue.{IsTerm};
 ghost use Rattle.cyp_term.specs.declared.term.Sort.TheVariants.{Int};
 
-use crate::rule::Rule;
-use crate::showing::{dead, shown};
-use crate::steps::{is_step, premises_of};
 use cyp_goal::{Renamed, TooLarge, normal};
 use cyp_heap::{BlockAt, CellAt, Chunk, Goal, Heap, InstOf, Node, Preds, Raw};
+use cyp_step::{Rule, dead, is_step, premises_of, shown};
 use cyp_term::{Fail as Refused, List, Lit, NoMemory, Shared, Sort, Term, Var};
 use std::alloc::Global;
 use std::test::Fail;

@@ -1,10 +1,7 @@
 ghost use Rattle.std.specs.Prelude.{◌≡◌};
 ghost use Rattle.cyp_term.specs.declared.term.Sort.TheVariants.{Set};
 
-use crate::list::List;
-use crate::lit::{Lit, SetTerm};
-use crate::subst::{IntBind, SetBind, Subst};
-use crate::term::{Sort, Term, TooWide, Var};
+use cyp_term::{IntBind, List, Lit, SetBind, SetTerm, Sort, Subst, Term, TooWide, Var};
 use std::alloc::Global;
 use std::test::Fail;
 
@@ -174,9 +171,12 @@ fn refuses_an_offset_past_the_range(rt: HostRuntime) -> Result<(), Fail> {
         }],
     )?;
     let lit = Lit::Eq(x(1), number(1));
-    assert_eq!(rt; lit.apply(alloc, &by), Err(crate::Fail::Named(TooWide)));
+    assert_eq!(rt; lit.apply(alloc, &by), Err(cyp_term::Fail::Named(TooWide)));
     let single = elements(alloc, &[x(1)])?;
-    assert_eq!(rt; single.apply(alloc, &by), Err(crate::Fail::Named(TooWide)));
+    assert_eq!(rt;
+        single.apply(alloc, &by),
+        Err(cyp_term::Fail::Named(TooWide))
+    );
     Ok(())
 }
 

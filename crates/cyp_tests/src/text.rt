@@ -1,7 +1,6 @@
-use crate::tree::{ArgTree, ChunkTree, IntTree, ItemTree, PureTree, TextTree};
-use crate::whole_text::parse;
 use cyp_lex::{Fault, FaultKind, tokens};
 use cyp_term::{Fail, NoMemory};
+use cyp_text::{ArgTree, ChunkTree, IntTree, ItemTree, PureTree, TextTree, parse};
 use std::alloc::Global;
 use std::test::Fail as Failed;
 

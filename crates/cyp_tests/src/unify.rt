@@ -3,10 +3,9 @@ ghost use Rattle.cyp_heap.specs.Chunks.{in_order};
 ghost use Rattle.cyp_term.specs.TermValue.{IsTerm};
 ghost use Rattle.cyp_term.specs.declared.term.Sort.TheVariants.{Int};
 
-use crate::found::Pair;
-use crate::frames::frame_pairs;
 use cyp_heap::{Arg, BlockAt, CellAt, Chunk, Goal, Heap, InstOf};
 use cyp_term::{List, Lit, NoMemory, SetTerm, Sort, Term, Var};
+use cyp_unify::{Pair, frame_pairs};
 use std::alloc::Global;
 use std::test::Fail;
 

@@ -2,7 +2,7 @@ use Rattle.std.proofs.Common.{◌≡◌, ◌++◌, ◌-◌, ℕ, List, length, t
 use Rattle.std.proofs.lemmas.List.{take-append-drop, take_all, length-drop}
 use Rattle.cyp_term.specs.declared.lit.Lit.{Lit}
 use Rattle.cyp_diff.specs.Solving.{AreInts, variables}
-use Rattle.cyp_diff.proofs.tests.answer_with.Goals as goal
+use Rattle.cyp_tests.proofs.diff.answer_with.Goals as goal
 
 joined : (ls : List Lit) (n : ℕ) → take n ls ++ take (length ls - n) (drop n ls) ≡ ls
 joined ls n = ap (λ zs. take n ls ++ zs) (take_all (length ls - n) (drop n ls) (omega (arith, length-drop n ls))) ∙ take-append-drop n ls

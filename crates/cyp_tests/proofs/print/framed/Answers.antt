@@ -1,7 +1,7 @@
 use Rattle.cyp_print.proofs.Example.{with_part}
 use Rattle.cyp_step.specs.declared.rule.Rule.TheVariants.{ByFrame}
 use Rattle.cyp_print.specs.Examples.{end_proof, stored}
-use Rattle.cyp_print.proofs.tests.framed.Goals as goal
+use Rattle.cyp_tests.proofs.print.framed.Goals as goal
 
 pub returns : goal.returns
 returns c =

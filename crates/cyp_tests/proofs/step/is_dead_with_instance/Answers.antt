@@ -1,7 +1,7 @@
 use Rattle.std.proofs.Common.{arith, subst, sym}
 use Rattle.cyp_step.specs.Examples.{with_instance}
 use Rattle.cyp_step.specs.NodeGoals.{IsGoalOfNode}
-use Rattle.cyp_step.proofs.tests.is_dead_with_instance.Goals as goal
+use Rattle.cyp_tests.proofs.step.is_dead_with_instance.Goals as goal
 
 instance_of_node : IsGoalOfNode with_instance
 instance_of_node = record {
