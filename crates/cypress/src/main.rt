@@ -1,8 +1,14 @@
 //! Reads a specification in separation logic from standard input, and writes a program that meets it.
 #![tactic(auto)]
 
-ghost use Rattle.std.specs.Prelude.{◌≡◌};
+mod words;
 
+ghost use Rattle.std.specs.Prelude.{◌≡◌, ◌⊎◌, false, map, string_bytes};
+ghost use Rattle.cyp_top.specs.Answers.{Answers};
+ghost use Rattle.cyp_top.specs.Output.{is_synth};
+ghost use Rattle.cyp_top.specs.declared.status.Status.TheVariants.{Usage, WriteFault};
+
+use crate::words::words_behind;
 use cyp_io::{Sink, Source, StdSink, StdSource};
 use cyp_term::Steps;
 use cyp_top::{Status, run_still};
@@ -12,6 +18,7 @@ use std::process::ExitCode;
 use std::sync::ledger::{Blank, Ledger};
 use std::{env, io};
 
+/// What `run_still` gives, with a counter of steps that nobody reads.
 fn run_uncounted<L: Ledger, S: Source, K: Sink>(
     alloc: Global,
     words: &[String],
@@ -22,16 +29,23 @@ fn run_uncounted<L: Ledger, S: Source, K: Sink>(
     requires name { blank.name ≡ L.name }
     requires parts { blank.parts ≡ L.parts }
     requires one { blank.parts ≡ 1 }
+    ensures answer { Answers (is_synth (map string_bytes words.now))
+        record { told = S.left source.old; faults = S.faults source.old }
+        record { told = S.left source.new; faults = S.faults source.new }
+        record { told = K.taken sink.old; faults = K.faults sink.old }
+        record { told = K.taken sink.new; faults = K.faults sink.new } result }
+    ensures usage { result ≡ Usage → is_synth (map string_bytes words.now) ≡ false }
+    ensures refused { is_synth (map string_bytes words.now) ≡ false → (result ≡ Usage) ⊎ (result ≡ WriteFault) }
+    ensures unread { is_synth (map string_bytes words.now) ≡ false → source.new ≡ source.old }
 {
     let mut steps = Steps::<L>::new(blank);
     run_still(alloc, words, source, sink, &mut steps)
 }
 
-fn main(rt: HostRuntime) -> io::Result<ExitCode> {
-    let mut words = Vec::new(rt.alloc());
-    for word in env::args(&rt)?.skip(1) {
-        words.push(word)?;
-    }
+fn main(rt: HostRuntime) -> ExitCode {
+    let Ok(words) = words_behind(rt.alloc(), env::args(&rt)) else {
+        return ExitCode::from(Status::NoMemory.code());
+    };
     let mut source = StdSource::new(rt.reader());
     let mut sink = StdSink::new(io::writer(&rt));
     let status = run_uncounted::<Brand, _, _>(
@@ -41,5 +55,5 @@ fn main(rt: HostRuntime) -> io::Result<ExitCode> {
         &mut sink,
         Blank::new(1),
     );
-    Ok(ExitCode::from(status.code()))
+    ExitCode::from(status.code())
 }
