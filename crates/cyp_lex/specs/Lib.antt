@@ -1,3 +1,9 @@
+pub mod Beginnings
 pub mod FaultNumber
+pub mod KeptNames
+pub mod Lexemes
 pub mod Lexing
+pub mod Readers
+pub mod SignTests
 pub mod Spelled
+pub mod Spelling

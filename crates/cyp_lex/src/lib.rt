@@ -1,10 +1,18 @@
-//! The tokens of a specification's text, and the faults of reading.
+//! The tokens of a text and the faults of reading; grammars as relations between lexemes and
+//! trees, with a theory of their readers, and the names in trees.
 #![tactic(auto)]
 
 mod fault;
+mod few;
+mod ident;
 mod lexer;
+mod name;
 mod token;
+mod want;
 
 pub use fault::{Fault, FaultKind};
+pub use ident::Ident;
 pub use lexer::tokens;
+pub use name::Name;
 pub use token::{Sign, Token, TokenKind, Word};
+pub use want::Want;

@@ -2,8 +2,8 @@
 use Rattle.std.proofs.Common.{◌≡◌, ◌⊎◌, [], ◌∷◌, ◌++◌, List, true, flat_map, map, ℕ, suc, ◌≤◌, ◌<◌, refl, ap, subst, sym, inl, inr, arith}
 use Rattle.std.specs.Prelude.{nat_lt}
 use Rattle.std.proofs.lemmas.Bool.{lt-ltb}
-use Rattle.cyp_grammar.specs.Lexemes.{Lexeme, Said, Symbol, lexeme_of}
-use Rattle.cyp_grammar.specs.Spelling.{Any, At, IsEnd, Mark, Match, Then, all_spelling, more_spelling, sign}
+use Rattle.cyp_lex.specs.Lexemes.{Lexeme, Said, Symbol, lexeme_of}
+use Rattle.cyp_lex.specs.Spelling.{Any, At, IsEnd, Mark, Match, Then, all_spelling, more_spelling, sign}
 use Rattle.cyp_lex.specs.Lexing.{LieInOrder}
 use Rattle.cyp_lex.specs.declared.token.Token.{Token}
 use Rattle.cyp_lex.specs.declared.token.Sign.TheVariants.{RightBrace, TwoStars}

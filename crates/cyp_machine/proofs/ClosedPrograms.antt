@@ -6,7 +6,7 @@ use Rattle.std.proofs.lemmas.Option.{slice_get-map, slice_get_within}
 use Rattle.std.specs.List.{list_all}
 use Rattle.std.specs.Option.{option_map}
 use Rattle.std.specs.Prelude.{nat_lt}
-use Rattle.cyp_grammar.specs.declared.ident.Ident.{Ident}
+use Rattle.cyp_lex.specs.declared.ident.Ident.{Ident}
 use Rattle.cyp_machine.specs.Closed.{IsClosed, calls_below, statement_calls_below}
 use Rattle.cyp_machine.specs.ClosedLaws.{EntryIsThere, InputIsClosed, SpelledIsClosed}
 use Rattle.cyp_machine.specs.RunInput.{InputTree, NumTree, RunInput, StartTree, input_faults, input_of, num_of, piece_faults, range_faults, start_faults}

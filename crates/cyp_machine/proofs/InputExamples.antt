@@ -2,10 +2,10 @@
 use Rattle.std.proofs.Common.{◌≡◌, ◌++◌, [], ◌∷◌, Err, List, Ok, Result, arith, drop, false, inl, inr, refl, subst, true, ℕ}
 use Rattle.std.specs.FinMap.{from_entries}
 use Rattle.std.specs.Prelude.{codes, neg_ℤ, pos}
-use Rattle.cyp_grammar.proofs.Spellings.{then_split}
-use Rattle.cyp_grammar.specs.Beginnings.{Begins}
-use Rattle.cyp_grammar.specs.Lexemes.{Lexeme, Name, Variable}
-use Rattle.cyp_grammar.specs.Spelling.{IsEnd, Then, all_spelling}
+use Rattle.cyp_lex.proofs.Spellings.{then_split}
+use Rattle.cyp_lex.specs.Beginnings.{Begins}
+use Rattle.cyp_lex.specs.Lexemes.{Lexeme, Name, Variable}
+use Rattle.cyp_lex.specs.Spelling.{IsEnd, Then, all_spelling}
 use Rattle.cyp_lex.specs.Lexing.{lexed, name_kind, piece_at, program_tokens_of, sign_at, stands}
 use Rattle.cyp_lex.specs.declared.fault.Fault.{Fault}
 use Rattle.cyp_lex.specs.declared.token.Token.{Token}

@@ -4,16 +4,16 @@ use Rattle.std.specs.Prelude.{codes}
 use Rattle.std.specs.Str.{bytes_eq}
 use Rattle.std.specs.Bool.{Decides}
 use Rattle.std.proofs.lemmas.Slice.Eq.{bytes_eq-Decides}
-use Rattle.cyp_grammar.proofs.Lists.{made}
-use Rattle.cyp_grammar.proofs.Readings.{Avoids, Bars, SameHead, Sound, Stuck, Took}
-use Rattle.cyp_grammar.proofs.Spellings.{then_join, then_put, then_split}
-use Rattle.cyp_grammar.proofs.Wholes.{whole_reads}
-use Rattle.cyp_grammar.specs.Beginnings.{Refused}
-use Rattle.cyp_grammar.specs.Lexemes.{Lexeme, Name, Said}
-use Rattle.cyp_grammar.specs.Readers.{Read, Stop, is_word, whole_of}
-use Rattle.cyp_grammar.specs.declared.want.Want.{Want}
-use Rattle.cyp_grammar.specs.declared.want.Want.TheVariants.{AName, NoName}
-use Rattle.cyp_grammar.specs.Spelling.{IsEnd, Mark, Match, Then}
+use Rattle.cyp_lex.proofs.Lists.{made}
+use Rattle.cyp_lex.proofs.Readings.{Avoids, Bars, SameHead, Sound, Stuck, Took}
+use Rattle.cyp_lex.proofs.Spellings.{then_join, then_put, then_split}
+use Rattle.cyp_lex.proofs.Wholes.{whole_reads}
+use Rattle.cyp_lex.specs.Beginnings.{Refused}
+use Rattle.cyp_lex.specs.Lexemes.{Lexeme, Name, Said}
+use Rattle.cyp_lex.specs.Readers.{Read, Stop, is_word, whole_of}
+use Rattle.cyp_lex.specs.declared.want.Want.{Want}
+use Rattle.cyp_lex.specs.declared.want.Want.TheVariants.{AName, NoName}
+use Rattle.cyp_lex.specs.Spelling.{IsEnd, Mark, Match, Then}
 use Rattle.cyp_lex.specs.declared.token.Word.TheVariants.{Void}
 use Rattle.cyp_machine.proofs.LineLaws.{line_reads}
 use Rattle.cyp_machine.specs.RunInput.{InputTree, StartTree, input_spelling, line_spelling, start_spelling}

@@ -1,18 +1,18 @@
 -- The start line of a run is read as it is spelled.
 use Rattle.std.proofs.Common.{◌≡◌, ◌++◌, Bool, List, [], ◌∷◌, ◌⊎◌, ap, append_assoc, false, inl, inr, refl, sym, true, ℕ}
-use Rattle.cyp_grammar.proofs.Choices.{spell_either}
-use Rattle.cyp_grammar.proofs.Enclosures.{enclosed_reads, enclosed_spelling}
-use Rattle.cyp_grammar.proofs.Firsts.{first_reads}
-use Rattle.cyp_grammar.proofs.Lists.{listed_spelling}
-use Rattle.cyp_grammar.proofs.Mapped.{mapped_reads}
-use Rattle.cyp_grammar.proofs.Readings.{Apart, Reads, apart_none, none, nowhere, within_self}
-use Rattle.cyp_grammar.proofs.Sequences.{both_reads, spell_both}
-use Rattle.cyp_grammar.proofs.Singles.{one}
-use Rattle.cyp_grammar.proofs.Tellers.{ident_reads, placed_mark, placed_number_reads, sign_listing_reads, sign_mark, sign_reads, word_mark, word_reads}
-use Rattle.cyp_grammar.specs.Lexemes.{Number, Reserved, Symbol}
-use Rattle.cyp_grammar.specs.Readers.{is_name, is_number, is_sign, is_word, one_of}
-use Rattle.cyp_grammar.specs.declared.want.Want.TheVariants.{NoName}
-use Rattle.cyp_grammar.specs.Spelling.{Mark, ident, sign}
+use Rattle.cyp_lex.proofs.Choices.{spell_either}
+use Rattle.cyp_lex.proofs.Enclosures.{enclosed_reads, enclosed_spelling}
+use Rattle.cyp_lex.proofs.Firsts.{first_reads}
+use Rattle.cyp_lex.proofs.Lists.{listed_spelling}
+use Rattle.cyp_lex.proofs.Mapped.{mapped_reads}
+use Rattle.cyp_lex.proofs.Readings.{Apart, Reads, apart_none, none, nowhere, within_self}
+use Rattle.cyp_lex.proofs.Sequences.{both_reads, spell_both}
+use Rattle.cyp_lex.proofs.Singles.{one}
+use Rattle.cyp_lex.proofs.Tellers.{ident_reads, placed_mark, placed_number_reads, sign_listing_reads, sign_mark, sign_reads, word_mark, word_reads}
+use Rattle.cyp_lex.specs.Lexemes.{Number, Reserved, Symbol}
+use Rattle.cyp_lex.specs.Readers.{is_name, is_number, is_sign, is_word, one_of}
+use Rattle.cyp_lex.specs.declared.want.Want.TheVariants.{NoName}
+use Rattle.cyp_lex.specs.Spelling.{Mark, ident, sign}
 use Rattle.cyp_lex.specs.declared.token.Sign.TheVariants.{Comma, LeftBrace, LeftBracket, LeftParen, Minus, PointsTo, RightBrace, RightBracket, RightParen, TwoStars}
 use Rattle.cyp_lex.specs.declared.token.Word.TheVariants.{Emp}
 use Rattle.cyp_machine.specs.RunInput.{BlockPiece, CellPiece, NumTree, PieceTree, StartTree, args_spelling, line_spelling, num_spelling, piece_spelling, pieces_spelling}

@@ -1,10 +1,10 @@
 -- How the start line of a run is read.
 use Rattle.std.specs.Prelude.{Bool, List, [], false, true, ◌∷◌, ◌⊎◌, ℕ}
 use Rattle.std.proofs.Common.{inl, inr}
-use Rattle.cyp_grammar.specs.Lexemes.{Lexeme, Said}
-use Rattle.cyp_grammar.specs.Readers.{Read, both, enclosed, first_tells, ident_token, is_number, is_sign, is_word, listing, mapped, one_of, placed_number, sign_token, word_token}
-use Rattle.cyp_grammar.specs.declared.want.Want.TheVariants.{NoName}
-use Rattle.cyp_grammar.specs.declared.ident.Ident.{Ident}
+use Rattle.cyp_lex.specs.Lexemes.{Lexeme, Said}
+use Rattle.cyp_lex.specs.Readers.{Read, both, enclosed, first_tells, ident_token, is_number, is_sign, is_word, listing, mapped, one_of, placed_number, sign_token, word_token}
+use Rattle.cyp_lex.specs.declared.want.Want.TheVariants.{NoName}
+use Rattle.cyp_lex.specs.declared.ident.Ident.{Ident}
 use Rattle.cyp_lex.specs.declared.token.Sign.TheVariants.{Comma, LeftBrace, LeftBracket, LeftParen, Minus, PointsTo, RightBrace, RightBracket, RightParen, TwoStars}
 use Rattle.cyp_lex.specs.declared.token.Word.TheVariants.{Emp}
 use Rattle.cyp_machine.specs.RunInput.{BlockPiece, CellPiece, NumTree, PieceTree, StartTree}

@@ -7,9 +7,9 @@
 use Rattle.std.specs.FinMap.{from_entries}
 use Rattle.std.specs.List.{list_any}
 use Rattle.std.specs.Prelude.{[], ◌++◌, ◌==◌, Bool, List, Result, codes, cond, flat_map, length, map, nat_le, neg_ℤ, not, pos, ℕ, ℤ, ◌∷◌}
-use Rattle.cyp_grammar.specs.Lexemes.{Name, Number, Symbol}
-use Rattle.cyp_grammar.specs.Spelling.{Any, At, Mark, ident, list_spelling, separated, sign, word}
-use Rattle.cyp_grammar.specs.declared.ident.Ident.{Ident}
+use Rattle.cyp_lex.specs.Lexemes.{Name, Number, Symbol}
+use Rattle.cyp_lex.specs.Spelling.{Any, At, Mark, ident, list_spelling, separated, sign, word}
+use Rattle.cyp_lex.specs.declared.ident.Ident.{Ident}
 use Rattle.cyp_heap.specs.Stores.{Store}
 use Rattle.cyp_lex.specs.declared.token.Sign.TheVariants.{Comma, LeftBrace, LeftBracket, LeftParen, Minus, PointsTo, RightBrace, RightBracket, RightParen, TwoStars}
 use Rattle.cyp_lex.specs.declared.token.Word.TheVariants.{Emp}

@@ -1,7 +1,7 @@
 -- Laws of the input of a run.
 use Rattle.std.specs.Prelude.{◌≡◌, List, Result, ℕ}
-use Rattle.cyp_grammar.specs.Lexemes.{Lexeme}
-use Rattle.cyp_grammar.specs.Spelling.{Match}
+use Rattle.cyp_lex.specs.Lexemes.{Lexeme}
+use Rattle.cyp_lex.specs.Spelling.{Match}
 use Rattle.cyp_machine.specs.RunInput.{InputTree, IsInputReading, RunInput, input_spelling}
 use Rattle.cyp_prog.specs.Faults.{ProgFault}
 

@@ -2,7 +2,7 @@
 use Rattle.std.proofs.Common.{List, [], add-one, ap, append_assoc, cond, drop, drop-cons, false, filter, flat_map, get_or, length, refl, suc, sym, true, zero, ℕ, ◌+◌, ◌++◌, ◌<◌, ◌∙◌, ◌∷◌, ◌≡◌}
 use Rattle.std.specs.Prelude.{Bool, not, slice_get}
 use Rattle.std.proofs.lemmas.Grind.{flat_map-append}
-use Rattle.cyp_grammar.specs.declared.ident.Ident.{Ident}
+use Rattle.cyp_lex.specs.declared.ident.Ident.{Ident}
 use Rattle.cyp_names.specs.Orders.{body_in, chunk_of_kind, chunks_in, item_uses, kind_uses, lit_in, parts_in, term_arg_uses}
 use Rattle.cyp_names.specs.declared.body_uses.ChunkKinds.TheVariants.{Blocks, Cells, Instances}
 use Rattle.cyp_names.specs.declared.uses.Order.{Order}

@@ -2,7 +2,7 @@
 use Rattle.std.specs.Prelude.{[], List, None, Option, Some, cond, ◌++◌, ◌∷◌}
 use Rattle.std.specs.List.{list_any}
 use Rattle.std.specs.Str.{bytes_eq}
-use Rattle.cyp_grammar.specs.declared.ident.Ident.{Ident}
+use Rattle.cyp_lex.specs.declared.ident.Ident.{Ident}
 use Rattle.cyp_lex.specs.declared.fault.Fault.{Fault}
 use Rattle.cyp_lex.specs.declared.fault.FaultKind.TheVariants.{DuplicateName, WrongSort}
 use Rattle.cyp_term.specs.declared.term.Sort.{Sort}

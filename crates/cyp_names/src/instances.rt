@@ -9,8 +9,7 @@ use crate::least::{fault, lesser};
 use crate::places::int_place;
 use crate::predicates::{param_sort, pred_named};
 use crate::sorts::is_same_sort;
-use cyp_grammar::Ident;
-use cyp_lex::{Fault, FaultKind};
+use cyp_lex::{Fault, FaultKind, Ident};
 use cyp_term::Sort;
 use cyp_text::{ArgTree, ChunkTree, IntTree, ParamTree, PredTree};
 

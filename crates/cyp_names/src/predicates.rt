@@ -2,7 +2,7 @@ ghost use Rattle.std.specs.Prelude.{◌≡◌, None, Some, MatchOption, length, 
 ghost use Rattle.std.specs.Str.{bytes_eq};
 ghost use Rattle.cyp_text.specs.Uses.{param_sort, pred_named, pred_place, sort_of, sorts_of};
 
-use cyp_grammar::Ident;
+use cyp_lex::Ident;
 use cyp_term::Sort;
 use cyp_text::{ParamTree, PredTree, SortTree};
 

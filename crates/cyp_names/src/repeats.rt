@@ -1,15 +1,14 @@
 ghost use Rattle.std.specs.Prelude.{[], ◌≡◌, map};
 ghost use Rattle.std.specs.List.{list_any};
 ghost use Rattle.std.specs.Str.{bytes_eq};
-ghost use Rattle.cyp_grammar.specs.declared.ident.Ident.{Ident as TheIdent};
+ghost use Rattle.cyp_lex.specs.declared.ident.Ident.{Ident as TheIdent};
 ghost use Rattle.cyp_names.specs.LeastFaults.{repeat_fault};
 ghost use Rattle.cyp_text.specs.NameFaults.{repeats};
 ghost use Rattle.cyp_text.specs.Reading.{least_fault};
 
 use crate::least::{fault, lesser};
 use crate::predicates::is_same_name;
-use cyp_grammar::Ident;
-use cyp_lex::{Fault, FaultKind};
+use cyp_lex::{Fault, FaultKind, Ident};
 use cyp_text::{ParamTree, PredTree};
 
 /// What declares a name.

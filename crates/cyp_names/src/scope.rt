@@ -7,7 +7,7 @@ ghost use Rattle.cyp_text.specs.Specifications.{count_sort};
 ghost use Rattle.cyp_text.specs.Uses.{same_name};
 
 use crate::uses::NamedUse;
-use cyp_grammar::Name;
+use cyp_lex::Name;
 use cyp_term::{NoMemory, Sort, Var};
 use std::alloc::Global;
 use std::marker::Model;

@@ -7,8 +7,7 @@ ghost use Rattle.cyp_text.specs.Reading.{least_fault};
 use crate::least::{fault, lesser};
 use crate::predicates::is_same_name;
 use crate::uses::NamedUse;
-use cyp_grammar::Ident;
-use cyp_lex::{Fault, FaultKind};
+use cyp_lex::{Fault, FaultKind, Ident};
 use cyp_term::{NoMemory, Sort};
 
 /// Whether two sorts are the same.

@@ -4,7 +4,7 @@ ghost use Rattle.cyp_names.specs.Orders.{base_in, kind_uses, lit_in, parts_in, t
 ghost use Rattle.cyp_text.specs.Bodies.{is_name, is_turned};
 ghost use Rattle.cyp_text.specs.Uses.{int_uses, part_uses, set_parts, use_of};
 
-use cyp_grammar::Ident;
+use cyp_lex::Ident;
 use cyp_term::{List, NoMemory, Sort};
 use cyp_text::{BaseTree, Comparison, IntTree, LitTree, PartTree, SetTree};
 use std::marker::Model;

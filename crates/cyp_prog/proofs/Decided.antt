@@ -1,11 +1,11 @@
 -- A text has a reading, where the grammar tells for all lexemes whether they spell a tree and where they stop.
 use Rattle.std.proofs.Common.{◌≡◌, ◌++◌, ◌∙◌, ◌⊎◌, Bool, Err, List, None, Ok, Option, Result, Some, [], ◌∷◌, ap, append-nil, append_assoc, arith, false, inl, inr, length, length-append, nat_le, refl, subst, sym, true, ℕ}
 use Rattle.std.proofs.lemmas.Bool.{leb-false, leb-true}
-use Rattle.cyp_grammar.specs.Beginnings.{Begins, Refused}
-use Rattle.cyp_grammar.specs.Lexemes.{Lexeme, Reserved, Said}
-use Rattle.cyp_grammar.specs.Readers.{Stop}
-use Rattle.cyp_grammar.specs.Spelling.{Mark, Match}
-use Rattle.cyp_grammar.proofs.Stops.{IsReading}
+use Rattle.cyp_lex.specs.Beginnings.{Begins, Refused}
+use Rattle.cyp_lex.specs.Lexemes.{Lexeme, Reserved, Said}
+use Rattle.cyp_lex.specs.Readers.{Stop}
+use Rattle.cyp_lex.specs.Spelling.{Mark, Match}
+use Rattle.cyp_lex.proofs.Stops.{IsReading}
 use Rattle.cyp_lex.specs.Lexing.{program_tokens_of}
 use Rattle.cyp_lex.specs.declared.fault.Fault.{Fault}
 use Rattle.cyp_lex.specs.declared.token.Token.{Token}

@@ -1,11 +1,11 @@
 -- What is read as it is spelled is told by its spelling.
 use Rattle.std.proofs.Common.{◌≡◌, ◌∙◌, Err, List, Ok, [], ◌∷◌, arith, inl, length, refl, subst, suc, sym, Bool, ℕ}
-use Rattle.cyp_grammar.proofs.Readings.{Avoids, Bars, Reads, SameHead, Sound}
-use Rattle.cyp_grammar.specs.Lexemes.{Lexeme, Said}
-use Rattle.cyp_grammar.specs.Readers.{Read}
-use Rattle.cyp_grammar.specs.declared.want.Want.{Want}
-use Rattle.cyp_grammar.specs.declared.want.Want.TheVariants.{AName, NoName}
-use Rattle.cyp_grammar.specs.Spelling.{IsEnd, Mark, Then}
+use Rattle.cyp_lex.proofs.Readings.{Avoids, Bars, Reads, SameHead, Sound}
+use Rattle.cyp_lex.specs.Lexemes.{Lexeme, Said}
+use Rattle.cyp_lex.specs.Readers.{Read}
+use Rattle.cyp_lex.specs.declared.want.Want.{Want}
+use Rattle.cyp_lex.specs.declared.want.Want.TheVariants.{AName, NoName}
+use Rattle.cyp_lex.specs.Spelling.{IsEnd, Mark, Then}
 
 -- the rest of the lexemes is allowed by both
 abbrev pub Both : (List Lexeme → Type 0) → (List Lexeme → Type 0) → Type 0

@@ -1,18 +1,18 @@
 -- Expressions, places and what a `let` binds are read as they are spelled.
 use Rattle.std.proofs.Common.{◌≡◌, ℕ, Bool, true, false, List, Option, Some, None, ◌⊎◌, inl, inr, refl, ap}
-use Rattle.cyp_grammar.proofs.Choices.{spell_either}
-use Rattle.cyp_grammar.proofs.Enclosures.{enclosed_reads, enclosed_spelling}
-use Rattle.cyp_grammar.proofs.Firsts.{first_reads}
-use Rattle.cyp_grammar.proofs.Mapped.{mapped_reads}
-use Rattle.cyp_grammar.proofs.Options.{option_reads, spell_option}
-use Rattle.cyp_grammar.proofs.Readings.{Apart, Reads, Within, apart_none, less_reads, none, nowhere, within_self}
-use Rattle.cyp_grammar.proofs.Sequences.{both_reads, spell_both}
-use Rattle.cyp_grammar.proofs.Singles.{one, some_is}
-use Rattle.cyp_grammar.proofs.Tellers.{Tells, number_mark, number_token_reads, placed_mark, placed_number_reads, placed_reads, plainly_reads, sign_mark, sign_reads, word_mark, word_reads}
-use Rattle.cyp_grammar.specs.Lexemes.{Number, Said, Symbol, Variable}
-use Rattle.cyp_grammar.specs.Readers.{is_number, is_sign, is_word, one_of}
-use Rattle.cyp_grammar.specs.declared.want.Want.TheVariants.{NoName}
-use Rattle.cyp_grammar.specs.Spelling.{Any, At, Mark}
+use Rattle.cyp_lex.proofs.Choices.{spell_either}
+use Rattle.cyp_lex.proofs.Enclosures.{enclosed_reads, enclosed_spelling}
+use Rattle.cyp_lex.proofs.Firsts.{first_reads}
+use Rattle.cyp_lex.proofs.Mapped.{mapped_reads}
+use Rattle.cyp_lex.proofs.Options.{option_reads, spell_option}
+use Rattle.cyp_lex.proofs.Readings.{Apart, Reads, Within, apart_none, less_reads, none, nowhere, within_self}
+use Rattle.cyp_lex.proofs.Sequences.{both_reads, spell_both}
+use Rattle.cyp_lex.proofs.Singles.{one, some_is}
+use Rattle.cyp_lex.proofs.Tellers.{Tells, number_mark, number_token_reads, placed_mark, placed_number_reads, placed_reads, plainly_reads, sign_mark, sign_reads, word_mark, word_reads}
+use Rattle.cyp_lex.specs.Lexemes.{Number, Said, Symbol, Variable}
+use Rattle.cyp_lex.specs.Readers.{is_number, is_sign, is_word, one_of}
+use Rattle.cyp_lex.specs.declared.want.Want.TheVariants.{NoName}
+use Rattle.cyp_lex.specs.Spelling.{Any, At, Mark}
 use Rattle.cyp_lex.specs.declared.token.Sign.TheVariants as signs
 use Rattle.cyp_lex.specs.declared.token.Word.TheVariants.{Malloc}
 use Rattle.cyp_prog.proofs.ExprReaders.{AnyExpr, AnyNumber, AnyPlace, BlockSource, CellSource, InParens, OtherPlace, SomeTest, VarExpr, any_number, args_at, begins_expr, begins_number, begins_other, begins_place, begins_source, block_source, expr_at, expr_tree, in_parens, is_sum, is_test, is_variable, other_place, place_at, place_tree, source_at, source_tree, sum_of, sum_token, test_at, test_of, test_token, var_expr, var_tree, variable_of, variable_token}

@@ -1,9 +1,9 @@
 -- How expressions, places and what a `let` binds are read.
 use Rattle.std.specs.Prelude.{Bool, List, None, Option, Some, false, true, ◌⊎◌, ℕ}
 use Rattle.std.proofs.Common.{inl, inr}
-use Rattle.cyp_grammar.specs.Lexemes.{Lexeme, Said, Symbol, Variable}
-use Rattle.cyp_grammar.specs.Readers.{Read, both, enclosed, first_tells, is_number, is_sign, is_word, mapped, number_token, one_of, option_after, placed, placed_number, plainly, sign_token, single, telling, word_token}
-use Rattle.cyp_grammar.specs.declared.want.Want.TheVariants.{NoName}
+use Rattle.cyp_lex.specs.Lexemes.{Lexeme, Said, Symbol, Variable}
+use Rattle.cyp_lex.specs.Readers.{Read, both, enclosed, first_tells, is_number, is_sign, is_word, mapped, number_token, one_of, option_after, placed, placed_number, plainly, sign_token, single, telling, word_token}
+use Rattle.cyp_lex.specs.declared.want.Want.TheVariants.{NoName}
 use Rattle.cyp_lex.specs.declared.token.Sign.TheVariants as signs
 use Rattle.cyp_lex.specs.declared.token.Word.TheVariants.{Malloc}
 use Rattle.cyp_prog.specs.Trees.{ExprTree, FromCell, FromMalloc, MinusNum, Num, PlaceExpr, PlaceMinus, PlaceNum, PlaceTree, PlaceVar, SourceTree, Var, VarMinus, VarPlus, VarTree}

@@ -1,8 +1,8 @@
 -- The second pass has one fault at most, and none where a tree is spelled.
 use Rattle.std.proofs.Common.{◌≡◌, ◌++◌, ◌⊎◌, List, [], ◌∷◌, ap, append-nil, append_assoc, inl, inr, refl, subst, sym}
-use Rattle.cyp_grammar.specs.Beginnings.{Begins}
-use Rattle.cyp_grammar.specs.Lexemes.{Lexeme}
-use Rattle.cyp_grammar.specs.Spelling.{Mark, Match}
+use Rattle.cyp_lex.specs.Beginnings.{Begins}
+use Rattle.cyp_lex.specs.Lexemes.{Lexeme}
+use Rattle.cyp_lex.specs.Spelling.{Mark, Match}
 use Rattle.cyp_prog.specs.Faults.{BadByte, DuplicateName, Expected, NumberRange, ProgKind, TooLarge, UnknownName, WrongArity}
 use Rattle.cyp_prog.specs.Nesting.{IsShallow}
 use Rattle.cyp_prog.specs.Passes.{IsRefused}

@@ -1,18 +1,18 @@
 -- Procedures and programs are read as they are spelled.
 use Rattle.std.proofs.Common.{◌≡◌, ℕ, zero, suc, List, [], ◌∷◌, Option, None, Some, refl, sym, ap, subst, append-nil, append_assoc, length, arith}
-use Rattle.cyp_grammar.proofs.Enclosures.{enclosed_reads, enclosed_spelling}
-use Rattle.cyp_grammar.proofs.Mapped.{mapped_reads}
-use Rattle.cyp_grammar.proofs.Options.{option_reads, spell_option}
-use Rattle.cyp_grammar.proofs.Readings.{Apart, Reads, apart_none, none, nowhere, within_self}
-use Rattle.cyp_grammar.proofs.Sequences.{both_reads, spell_both}
-use Rattle.cyp_grammar.proofs.Singles.{one}
-use Rattle.cyp_grammar.proofs.Tellers.{ident_reads, sign_mark, sign_reads, word_mark, word_reads}
-use Rattle.cyp_grammar.proofs.Wholes.{whole_reads}
-use Rattle.cyp_grammar.specs.Lexemes.{Lexeme, Symbol, Variable}
-use Rattle.cyp_grammar.specs.Readers.{is_sign, is_word, one_of, whole_of}
-use Rattle.cyp_grammar.specs.declared.want.Want.TheVariants.{NoName}
-use Rattle.cyp_grammar.specs.Spelling.{IsEnd, Mark, Match, Then, ident, sign, word}
-use Rattle.cyp_grammar.proofs.Stops.{IsReading}
+use Rattle.cyp_lex.proofs.Enclosures.{enclosed_reads, enclosed_spelling}
+use Rattle.cyp_lex.proofs.Mapped.{mapped_reads}
+use Rattle.cyp_lex.proofs.Options.{option_reads, spell_option}
+use Rattle.cyp_lex.proofs.Readings.{Apart, Reads, apart_none, none, nowhere, within_self}
+use Rattle.cyp_lex.proofs.Sequences.{both_reads, spell_both}
+use Rattle.cyp_lex.proofs.Singles.{one}
+use Rattle.cyp_lex.proofs.Tellers.{ident_reads, sign_mark, sign_reads, word_mark, word_reads}
+use Rattle.cyp_lex.proofs.Wholes.{whole_reads}
+use Rattle.cyp_lex.specs.Lexemes.{Lexeme, Symbol, Variable}
+use Rattle.cyp_lex.specs.Readers.{is_sign, is_word, one_of, whole_of}
+use Rattle.cyp_lex.specs.declared.want.Want.TheVariants.{NoName}
+use Rattle.cyp_lex.specs.Spelling.{IsEnd, Mark, Match, Then, ident, sign, word}
+use Rattle.cyp_lex.proofs.Stops.{IsReading}
 use Rattle.cyp_lex.specs.declared.token.Sign.TheVariants.{Comma, LeftBrace, LeftParen, RightParen}
 use Rattle.cyp_lex.specs.declared.token.Word.TheVariants.{Void}
 use Rattle.cyp_prog.proofs.Exact.{end_avoids, reads_exact}

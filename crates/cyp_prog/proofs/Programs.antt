@@ -1,6 +1,6 @@
 -- Laws of programs as texts.
 use Rattle.std.proofs.Common.{Err, Ok}
-use Rattle.cyp_grammar.specs.Readers.{whole_of}
+use Rattle.cyp_lex.specs.Readers.{whole_of}
 use Rattle.cyp_prog.proofs.Decided.{decided, has_reading}
 use Rattle.cyp_prog.proofs.ProgramLaws.{one_program, program_is_read}
 use Rattle.cyp_prog.proofs.Readings.{reading_once}

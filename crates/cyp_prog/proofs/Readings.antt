@@ -1,7 +1,7 @@
 -- A text has one reading at most.
 use Rattle.std.proofs.Common.{◌≡◌, ◌++◌, ◌∙◌, Err, List, Ok, Result, ap, inl, inr, length, subst, sym, ℕ}
-use Rattle.cyp_grammar.specs.Lexemes.{Lexeme}
-use Rattle.cyp_grammar.specs.Spelling.{Mark, Match}
+use Rattle.cyp_lex.specs.Lexemes.{Lexeme}
+use Rattle.cyp_lex.specs.Spelling.{Mark, Match}
 use Rattle.cyp_lex.specs.declared.token.Token.{Token}
 use Rattle.cyp_prog.proofs.GrammarFaults.{compare, Compared, one_kind, passed, whole_passes}
 use Rattle.cyp_prog.specs.Faults.{ProgFault, ProgKind}

@@ -2,7 +2,7 @@
 use Rattle.std.proofs.Common.{◌≡◌, ◌∙◌, ◌+◌, ◌≤◌, Bool, List, ◌∷◌, ap, arith, cond}
 use Rattle.std.specs.List.{count_by}
 use Rattle.std.proofs.lemmas.List.Sums.{sum_by-append}
-use Rattle.cyp_grammar.specs.Lexemes.{Lexeme}
+use Rattle.cyp_lex.specs.Lexemes.{Lexeme}
 use Rattle.cyp_prog.specs.Nesting.{IsShallow, is_opening}
 
 pub few_braces : (ls : List Lexeme) → count_by (λ (l : Lexeme). is_opening l.said) ls ≤ 128 → IsShallow ls

@@ -1,18 +1,18 @@
 -- Statements and blocks are read as they are spelled.
 use Rattle.std.proofs.Common.{◌≡◌, ℕ, zero, suc, true, List, [], ◌∷◌, ◌++◌, ◌⊎◌, inl, inr, refl, sym, ap, subst, append_assoc, length, arith}
-use Rattle.cyp_grammar.proofs.Choices.{spell_either}
-use Rattle.cyp_grammar.proofs.Firsts.{NameBegins, first_reads, name_both, name_ident, name_left, or_left}
-use Rattle.cyp_grammar.proofs.Lists.{made}
-use Rattle.cyp_grammar.proofs.Mapped.{mapped_reads}
-use Rattle.cyp_grammar.proofs.Readings.{Apart, Reads, apart_none, none, within_self}
-use Rattle.cyp_grammar.proofs.Sequences.{both_reads, spell_both, then_reads}
-use Rattle.cyp_grammar.proofs.Singles.{one}
-use Rattle.cyp_grammar.proofs.Spellings.{then_split}
-use Rattle.cyp_grammar.proofs.Tellers.{ident_reads, sign_mark, sign_reads, word_mark, word_reads}
-use Rattle.cyp_grammar.specs.Lexemes.{Lexeme, Name, Reserved, Symbol}
-use Rattle.cyp_grammar.specs.Readers.{IsNamed, Read, ident_of, is_name, is_sign, is_word}
-use Rattle.cyp_grammar.specs.declared.want.Want.TheVariants.{AName, NoName}
-use Rattle.cyp_grammar.specs.Spelling.{Mark, Match, Then, ident, sign, word}
+use Rattle.cyp_lex.proofs.Choices.{spell_either}
+use Rattle.cyp_lex.proofs.Firsts.{NameBegins, first_reads, name_both, name_ident, name_left, or_left}
+use Rattle.cyp_lex.proofs.Lists.{made}
+use Rattle.cyp_lex.proofs.Mapped.{mapped_reads}
+use Rattle.cyp_lex.proofs.Readings.{Apart, Reads, apart_none, none, within_self}
+use Rattle.cyp_lex.proofs.Sequences.{both_reads, spell_both, then_reads}
+use Rattle.cyp_lex.proofs.Singles.{one}
+use Rattle.cyp_lex.proofs.Spellings.{then_split}
+use Rattle.cyp_lex.proofs.Tellers.{ident_reads, sign_mark, sign_reads, word_mark, word_reads}
+use Rattle.cyp_lex.specs.Lexemes.{Lexeme, Name, Reserved, Symbol}
+use Rattle.cyp_lex.specs.Readers.{IsNamed, Read, ident_of, is_name, is_sign, is_word}
+use Rattle.cyp_lex.specs.declared.want.Want.TheVariants.{AName, NoName}
+use Rattle.cyp_lex.specs.Spelling.{Mark, Match, Then, ident, sign, word}
 use Rattle.cyp_lex.specs.declared.token.Sign.TheVariants.{Assign, LeftBrace, LeftParen, RightBrace, RightParen, Semicolon, Star}
 use Rattle.cyp_lex.specs.declared.token.Word.TheVariants.{Else, Error, Free, If, Let}
 use Rattle.cyp_prog.proofs.ExprLaws.{args_reads, enclosed_args, expr_reads, place_reads, some_test_reads, some_test_spelling, source_reads, variable_reads}

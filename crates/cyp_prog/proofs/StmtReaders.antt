@@ -1,10 +1,10 @@
 -- How statements, procedures and programs are read.
 use Rattle.std.specs.Prelude.{Bool, List, Option, None, Some, [], length, suc, zero, ◌∷◌, ◌⊎◌, ℕ}
 use Rattle.std.proofs.Common.{inl, inr}
-use Rattle.cyp_grammar.specs.Lexemes.{Lexeme, Said}
-use Rattle.cyp_grammar.specs.Readers.{Read, both, enclosed, first_tells, ident_token, is_name, is_sign, is_word, mapped, one_of, option_after, sign_token, stop, word_token}
-use Rattle.cyp_grammar.specs.declared.want.Want.TheVariants.{AName, NoName}
-use Rattle.cyp_grammar.specs.declared.ident.Ident.{Ident}
+use Rattle.cyp_lex.specs.Lexemes.{Lexeme, Said}
+use Rattle.cyp_lex.specs.Readers.{Read, both, enclosed, first_tells, ident_token, is_name, is_sign, is_word, mapped, one_of, option_after, sign_token, stop, word_token}
+use Rattle.cyp_lex.specs.declared.want.Want.TheVariants.{AName, NoName}
+use Rattle.cyp_lex.specs.declared.ident.Ident.{Ident}
 use Rattle.cyp_lex.specs.declared.token.Sign.TheVariants.{Assign, LeftBrace, LeftParen, RightBrace, RightParen, Semicolon, Star}
 use Rattle.cyp_lex.specs.declared.token.Word.TheVariants.{Else, Error, Free, If, Let, Void}
 use Rattle.cyp_prog.proofs.ExprReaders.{SomeTest, args_at, expr_at, is_variable, place_at, source_at, test_at, variable_token}

@@ -2,7 +2,7 @@
 use Rattle.std.specs.Prelude.{◌&&◌, ◌++◌, ◌==◌, List, None, Option, Some, [], drop, flat_map, length, map, nat_le, not, suc, ℕ, ◌∷◌}
 use Rattle.std.specs.List.{list_any}
 use Rattle.std.specs.Str.{bytes_eq}
-use Rattle.cyp_grammar.specs.declared.ident.Ident.{Ident}
+use Rattle.cyp_lex.specs.declared.ident.Ident.{Ident}
 use Rattle.cyp_prog.specs.Faults.{DuplicateName, ProgFault, TooLarge, UnknownName, WrongArity, unless}
 use Rattle.cyp_prog.specs.Trees.{BlockTree, CallStmt, ErrorStmt, ExprTree, FreeStmt, FromCell, FromMalloc, IfStmt, LetStmt, MinusNum, NoStmts, Num, PlaceExpr, PlaceMinus, PlaceNum, PlaceTree, PlaceVar, ProcTree, ProgramTree, SourceTree, StmtTree, Stmts, StoreStmt, Var, VarMinus, VarPlus, VarTree, procs_of}
 use Rattle.cyp_prog.specs.TreePrograms.{proc_named}

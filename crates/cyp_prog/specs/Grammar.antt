@@ -11,8 +11,8 @@
 --     place   = VAR | NUMBER | "-" NUMBER | "(" expr ")"
 --     expr    = VAR | NUMBER | "-" NUMBER | VAR ( "+" | "-" ) NUMBER
 use Rattle.std.specs.Prelude.{List, [], ◌++◌, ◌∷◌, ℕ}
-use Rattle.cyp_grammar.specs.Lexemes.{Number, Symbol, Variable}
-use Rattle.cyp_grammar.specs.Spelling.{Any, At, Mark, all_spelling, ident, separated, sign, word}
+use Rattle.cyp_lex.specs.Lexemes.{Number, Symbol, Variable}
+use Rattle.cyp_lex.specs.Spelling.{Any, At, Mark, all_spelling, ident, separated, sign, word}
 use Rattle.cyp_lex.specs.declared.token.Sign.{Sign}
 use Rattle.cyp_lex.specs.declared.token.Sign.TheVariants as signs
 use Rattle.cyp_lex.specs.declared.token.Word.TheVariants as words

@@ -1,7 +1,7 @@
 -- Laws of programs as texts.
 use Rattle.std.specs.Prelude.{◌≡◌, Err, List, Result, ℕ}
-use Rattle.cyp_grammar.specs.Lexemes.{Lexeme}
-use Rattle.cyp_grammar.specs.Spelling.{Match}
+use Rattle.cyp_lex.specs.Lexemes.{Lexeme}
+use Rattle.cyp_lex.specs.Spelling.{Match}
 use Rattle.cyp_prog.specs.Faults.{ProgFault}
 use Rattle.cyp_prog.specs.Grammar.{program_spelling}
 use Rattle.cyp_prog.specs.Programs.{Procedure}

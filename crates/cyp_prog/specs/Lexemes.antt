@@ -1,7 +1,7 @@
 -- What a token of a program says: as in a specification, but a program variable's name says its number.
 use Rattle.std.specs.Prelude.{◌&&◌, ◌==◌, Bool, List, cond, drop, false, map, nat_le, not, slice_range, ℕ, ◌∷◌}
 use Rattle.std.specs.List.{list_all}
-use Rattle.cyp_grammar.specs.Lexemes.{Lexeme, Name, Said, Variable, said_by}
+use Rattle.cyp_lex.specs.Lexemes.{Lexeme, Name, Said, Variable, said_by}
 use Rattle.cyp_lex.specs.Lexing.{decimal_value, is_digit}
 use Rattle.cyp_lex.specs.declared.token.Token.{Token}
 use Rattle.cyp_lex.specs.declared.token.TokenKind.{TokenKind}

@@ -1,6 +1,6 @@
 -- How deep conditionals are nested.
 use Rattle.std.specs.Prelude.{◌++◌, ◌-◌, ◌≡◌, ◌≤◌, Bool, List, count_by, false, true, ℕ, ◌∷◌}
-use Rattle.cyp_grammar.specs.Lexemes.{Lexeme, Reserved, Said, Symbol}
+use Rattle.cyp_lex.specs.Lexemes.{Lexeme, Reserved, Said, Symbol}
 use Rattle.cyp_lex.specs.declared.token.Sign.TheVariants.{LeftBrace, RightBrace}
 use Rattle.cyp_lex.specs.declared.token.Word.TheVariants.{If}
 

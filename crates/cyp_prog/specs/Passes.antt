@@ -1,8 +1,8 @@
 -- The three passes over a text: its bytes, its grammar, and the rest. The first pass with a fault decides.
 use Rattle.std.specs.Prelude.{[], ◌++◌, ◌≡◌, ◌⊎◌, Err, List, None, Ok, Result, Some, length, ◌∷◌, ℕ}
-use Rattle.cyp_grammar.specs.Beginnings.{Begins}
-use Rattle.cyp_grammar.specs.Lexemes.{Lexeme}
-use Rattle.cyp_grammar.specs.Spelling.{Mark, Match}
+use Rattle.cyp_lex.specs.Beginnings.{Begins}
+use Rattle.cyp_lex.specs.Lexemes.{Lexeme}
+use Rattle.cyp_lex.specs.Spelling.{Mark, Match}
 use Rattle.cyp_lex.specs.Lexing.{program_tokens_of}
 use Rattle.cyp_lex.specs.declared.fault.Fault.{Fault}
 use Rattle.cyp_lex.specs.declared.fault.FaultKind.{FaultKind}

@@ -1,6 +1,6 @@
 -- The syntax of programs as trees. A place is that of a lexeme's first byte.
 use Rattle.std.specs.Prelude.{List, ◌∷◌, ℕ}
-use Rattle.cyp_grammar.specs.declared.ident.Ident.{Ident}
+use Rattle.cyp_lex.specs.declared.ident.Ident.{Ident}
 use Rattle.cyp_prog.specs.declared.stmt.TestSign.{TestSign}
 
 -- a program variable with its place

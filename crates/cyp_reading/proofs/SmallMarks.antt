@@ -2,8 +2,8 @@
 use Rattle.std.proofs.Common.{List, [], inl, inr, refl, subst, sym, ◌++◌, ◌∷◌}
 use Rattle.std.specs.List.{All}
 use Rattle.std.proofs.lemmas.List.Elements.{All-nil}
-use Rattle.cyp_grammar.specs.Lexemes.{Number, Reserved, Symbol}
-use Rattle.cyp_grammar.specs.Spelling.{Any, At, Mark, all_spelling, ident, separated, sign, word}
+use Rattle.cyp_lex.specs.Lexemes.{Number, Reserved, Symbol}
+use Rattle.cyp_lex.specs.Spelling.{Any, At, Mark, all_spelling, ident, separated, sign, word}
 use Rattle.cyp_lex.specs.declared.token.Sign.TheVariants.{Bar, Comma, Implies, LeftBrace, LeftParen, RightBrace, RightParen, Same as SameSign, Semicolon, Subset, TwoPluses, TwoStars}
 use Rattle.cyp_lex.specs.declared.token.Word.TheVariants.{In, Not, Predicate, Void}
 use Rattle.cyp_reading.specs.Small.{ArgSmall, BodySmall, ChunkSmall, ClauseSmall, IntSmall, ItemSmall, LitSmall, PartSmall, PredSmall, PureSmall, SetSmall, TextSmall}

@@ -3,7 +3,7 @@ use Rattle.std.proofs.Common.{Bool, List, Some, [], ap, arith, cond, false, filt
 use Rattle.std.specs.List.{All}
 use Rattle.std.proofs.lemmas.List.Elements.{All-head, All-tail}
 use Rattle.std.specs.Str.{bytes_eq}
-use Rattle.cyp_grammar.specs.declared.ident.Ident.{Ident}
+use Rattle.cyp_lex.specs.declared.ident.Ident.{Ident}
 use Rattle.cyp_reading.specs.Readable.{ArgReadable, ArgsReadable, ChunkReadable, IntReadable, ItemReadable, LitReadable, PartReadable, PureReadable, SetReadable}
 use Rattle.cyp_reading.specs.Small.{ArgSmall, ChunkSmall, IntSmall, ItemSmall, LitSmall, PartSmall, PureSmall, SetSmall}
 use Rattle.cyp_reading.proofs.Alls.{all_by}

@@ -1,7 +1,7 @@
 -- What is asked of trees that are read: small numbers, and names that have in the scope the sorts of their places.
 use Rattle.std.specs.Prelude.{List, ℕ, ◌<◌, ◌≤◌, ◌∷◌, ◌≡◌}
 use Rattle.std.specs.List.{All}
-use Rattle.cyp_grammar.specs.declared.ident.Ident.{Ident}
+use Rattle.cyp_lex.specs.declared.ident.Ident.{Ident}
 use Rattle.cyp_term.specs.declared.term.Sort.{Sort}
 use Rattle.cyp_term.specs.declared.term.Sort.TheVariants.{Int, Set}
 use Rattle.cyp_text.specs.LitTrees.{LitTree, lit_base}

@@ -4,7 +4,7 @@ ghost use Rattle.cyp_term.specs.Terms.{plus, var_term};
 ghost use Rattle.cyp_term.specs.declared.term.Sort.TheVariants.{Int};
 ghost use Rattle.cyp_text.specs.ReadTerms.{read_int, var_named};
 
-use cyp_grammar::Ident;
+use cyp_lex::Ident;
 use cyp_names::Scope;
 use cyp_term::Term;
 use cyp_text::IntTree;

@@ -9,7 +9,7 @@ ghost use Rattle.cyp_text.specs.ReadTerms.{part_elems, part_vars, read_int, read
 ghost use Rattle.cyp_text.specs.declared.tree.PartTree.TheVariants.{Braces, PartName};
 
 use crate::terms::read_int;
-use cyp_grammar::Ident;
+use cyp_lex::Ident;
 use cyp_names::Scope;
 use cyp_term::{List, NoMemory, SetTerm, Term, Var};
 use cyp_text::{IntTree, PartTree, SetTree};

@@ -2,8 +2,8 @@
 use Rattle.std.proofs.Common.{Err, List, None, Ok, Option, Result, Some, [], inl, length, map, refl, subst, sym, ◌≡◌, ◌≤◌, ℕ}
 use Rattle.std.specs.Prelude.{Bool}
 use Rattle.std.proofs.lemmas.Bool.{le-leb}
-use Rattle.cyp_grammar.specs.Lexemes.{Lexeme, lexeme_of}
-use Rattle.cyp_grammar.specs.Spelling.{Match}
+use Rattle.cyp_lex.specs.Lexemes.{Lexeme, lexeme_of}
+use Rattle.cyp_lex.specs.Spelling.{Match}
 use Rattle.cyp_lex.specs.Lexing.{Gives, tokens_of}
 use Rattle.cyp_lex.specs.declared.fault.Fault.{Fault}
 use Rattle.cyp_lex.specs.declared.token.Token.{Token}

@@ -1,6 +1,6 @@
 -- What reading a specification answers.
 use Rattle.std.specs.Prelude.{Err, List, Ok, Result, ℕ}
-use Rattle.cyp_grammar.specs.Lexemes.{Lexeme}
+use Rattle.cyp_lex.specs.Lexemes.{Lexeme}
 use Rattle.cyp_lex.specs.declared.fault.Fault.{Fault}
 use Rattle.cyp_term.specs.declared.fail.Fail.{Fail}
 use Rattle.cyp_term.specs.declared.fail.Fail.TheVariants.{Named, NoMemory}

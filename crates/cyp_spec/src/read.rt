@@ -1,5 +1,5 @@
 ghost use Rattle.std.specs.Prelude.{Ok, map, length, ◌≡◌, ◌≤◌};
-ghost use Rattle.cyp_grammar.specs.Lexemes.{lexeme_of};
+ghost use Rattle.cyp_lex.specs.Lexemes.{lexeme_of};
 ghost use Rattle.cyp_lex.specs.Lexing.{Gives, LieInOrder, tokens_of};
 ghost use Rattle.cyp_limits.specs.InOrder.{IsInOrder};
 ghost use Rattle.cyp_reading.specs.Small.{TextSmall};

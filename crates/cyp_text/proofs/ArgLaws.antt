@@ -1,19 +1,19 @@
 -- Arguments are read as they are spelled.
 use Rattle.std.proofs.Common.{◌≡◌, ℕ, Bool, true, false, List, [], ◌∷◌, Option, Some, None, inl, inr, refl}
 use Rattle.cyp_lex.specs.declared.token.Sign.TheVariants.{LeftBrace, Minus, Plus, TwoPluses}
-use Rattle.cyp_grammar.specs.Lexemes.{Symbol}
-use Rattle.cyp_grammar.specs.Spelling.{Mark, ident}
-use Rattle.cyp_grammar.specs.declared.ident.Ident.{Ident}
-use Rattle.cyp_grammar.specs.Readers.{is_name, is_sign}
-use Rattle.cyp_grammar.specs.declared.want.Want.TheVariants.{NoName}
-use Rattle.cyp_grammar.proofs.Readings.{Apart, Reads, Within, apart_none, less_reads, none, nowhere, within_self}
-use Rattle.cyp_grammar.proofs.Singles.{one}
-use Rattle.cyp_grammar.proofs.Sequences.{both_reads, spell_both}
-use Rattle.cyp_grammar.proofs.Mapped.{mapped_reads}
-use Rattle.cyp_grammar.proofs.Options.{option_reads, spell_option}
-use Rattle.cyp_grammar.proofs.Choices.{spell_either}
-use Rattle.cyp_grammar.proofs.Tellers.{ident_reads, number_mark, number_token_reads, sign_mark, sign_reads}
-use Rattle.cyp_grammar.proofs.Firsts.{NameBegins, first_reads, name_ident, name_mapped, name_option, name_right}
+use Rattle.cyp_lex.specs.Lexemes.{Symbol}
+use Rattle.cyp_lex.specs.Spelling.{Mark, ident}
+use Rattle.cyp_lex.specs.declared.ident.Ident.{Ident}
+use Rattle.cyp_lex.specs.Readers.{is_name, is_sign}
+use Rattle.cyp_lex.specs.declared.want.Want.TheVariants.{NoName}
+use Rattle.cyp_lex.proofs.Readings.{Apart, Reads, Within, apart_none, less_reads, none, nowhere, within_self}
+use Rattle.cyp_lex.proofs.Singles.{one}
+use Rattle.cyp_lex.proofs.Sequences.{both_reads, spell_both}
+use Rattle.cyp_lex.proofs.Mapped.{mapped_reads}
+use Rattle.cyp_lex.proofs.Options.{option_reads, spell_option}
+use Rattle.cyp_lex.proofs.Choices.{spell_either}
+use Rattle.cyp_lex.proofs.Tellers.{ident_reads, number_mark, number_token_reads, sign_mark, sign_reads}
+use Rattle.cyp_lex.proofs.Firsts.{NameBegins, first_reads, name_ident, name_mapped, name_option, name_right}
 use Rattle.cyp_text.specs.declared.tree.ArgTree.{ArgTree}
 use Rattle.cyp_text.specs.declared.tree.ArgTree.TheVariants.{BracesArg, TermArg, UnionArg}
 use Rattle.cyp_text.specs.declared.tree.IntTree.{IntTree}

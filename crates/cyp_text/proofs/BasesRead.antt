@@ -1,8 +1,8 @@
 -- How the code reads literals without `not`.
 use Rattle.std.proofs.Common.{Err, List, None, Ok, Option, Some, [], ap, false, refl, true, ◌∙◌, ◌∷◌, ◌≡◌}
-use Rattle.cyp_grammar.specs.Lexemes.{Lexeme, Number, Name, Reserved, Said, Symbol, Variable}
-use Rattle.cyp_grammar.specs.Readers.{Read, both, heads, is_there, is_word, left_by_second, stop, word_token, ◌>>=◌}
-use Rattle.cyp_grammar.specs.declared.want.Want.TheVariants.{AName, NoName}
+use Rattle.cyp_lex.specs.Lexemes.{Lexeme, Number, Name, Reserved, Said, Symbol, Variable}
+use Rattle.cyp_lex.specs.Readers.{Read, both, heads, is_there, is_word, left_by_second, stop, word_token, ◌>>=◌}
+use Rattle.cyp_lex.specs.declared.want.Want.TheVariants.{AName, NoName}
 use Rattle.cyp_lex.specs.declared.token.Word.TheVariants.{In}
 use Rattle.cyp_text.specs.ListReaders.{Refuses}
 use Rattle.cyp_text.specs.LitReaders.{Base, IntLit, Related, SetLit, base_tree, comparison, comparison_of, int_base, int_lit, int_lit_base, is_comparison, is_set_tail, plain_base, related, set_base_at, set_lit, set_lit_base, set_sign}

@@ -1,8 +1,8 @@
 -- How the code reads items and bodies.
 use Rattle.std.proofs.Common.{Err, List, Ok, ap, false, refl, true, ◌∙◌, ◌≡◌, ◌⊎◌}
-use Rattle.cyp_grammar.specs.Lexemes.{Lexeme}
-use Rattle.cyp_grammar.specs.Readers.{Read, both, heads, is_word, left_by_second, word_token, ◌>>=◌}
-use Rattle.cyp_grammar.specs.declared.want.Want.TheVariants.{AName}
+use Rattle.cyp_lex.specs.Lexemes.{Lexeme}
+use Rattle.cyp_lex.specs.Readers.{Read, both, heads, is_word, left_by_second, word_token, ◌>>=◌}
+use Rattle.cyp_lex.specs.declared.want.Want.TheVariants.{AName}
 use Rattle.cyp_lex.specs.declared.token.Word.TheVariants.{Emp, Not, True}
 use Rattle.cyp_text.specs.BodyReaders.{AnyBody, SomeItems, begins_item, body_at, body_tree, full_body, item_at, item_tree, items_at, items_body}
 use Rattle.cyp_text.specs.ChunkReaders.{begins_chunk, begins_heap, chunks_at, heap_at, heap_tree, is_chunk_tail}

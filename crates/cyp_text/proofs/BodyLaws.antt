@@ -2,18 +2,18 @@
 use Rattle.std.proofs.Common.{◌≡◌, ℕ, List, inl, inr, refl}
 use Rattle.cyp_lex.specs.declared.token.Sign.TheVariants.{LeftBrace, LeftBracket, LeftParen, PointsTo, RightBrace}
 use Rattle.cyp_lex.specs.declared.token.Word.TheVariants.{Emp}
-use Rattle.cyp_grammar.specs.Lexemes.{Name, Reserved, Symbol}
-use Rattle.cyp_grammar.specs.Spelling.{Mark}
-use Rattle.cyp_grammar.specs.Readers.{both, is_sign}
-use Rattle.cyp_grammar.proofs.Readings.{Apart, Reads, apart_none, none, within_self}
-use Rattle.cyp_grammar.proofs.Singles.{one}
-use Rattle.cyp_grammar.proofs.Sequences.{both_reads, spell_both}
-use Rattle.cyp_grammar.proofs.Mapped.{mapped_reads}
-use Rattle.cyp_grammar.proofs.Choices.{spell_either}
-use Rattle.cyp_grammar.proofs.Tellers.{sign_mark, sign_reads}
-use Rattle.cyp_grammar.proofs.Firsts.{NameBegins, name_right}
-use Rattle.cyp_grammar.proofs.Seconds.{ApartButNames, second_reads}
-use Rattle.cyp_grammar.proofs.Behinds.{NameLeads, leads_both}
+use Rattle.cyp_lex.specs.Lexemes.{Name, Reserved, Symbol}
+use Rattle.cyp_lex.specs.Spelling.{Mark}
+use Rattle.cyp_lex.specs.Readers.{both, is_sign}
+use Rattle.cyp_lex.proofs.Readings.{Apart, Reads, apart_none, none, within_self}
+use Rattle.cyp_lex.proofs.Singles.{one}
+use Rattle.cyp_lex.proofs.Sequences.{both_reads, spell_both}
+use Rattle.cyp_lex.proofs.Mapped.{mapped_reads}
+use Rattle.cyp_lex.proofs.Choices.{spell_either}
+use Rattle.cyp_lex.proofs.Tellers.{sign_mark, sign_reads}
+use Rattle.cyp_lex.proofs.Firsts.{NameBegins, name_right}
+use Rattle.cyp_lex.proofs.Seconds.{ApartButNames, second_reads}
+use Rattle.cyp_lex.proofs.Behinds.{NameLeads, leads_both}
 use Rattle.cyp_text.specs.declared.tree.BodyTree.{BodyTree}
 use Rattle.cyp_text.specs.declared.tree.ChunkTree.{ChunkTree}
 use Rattle.cyp_text.specs.declared.tree.PureTree.{PureTree}

@@ -1,9 +1,9 @@
 -- A part of a union that begins with a brace.
 use Rattle.std.proofs.Common.{Err, List, Ok, ap, refl, true, ℕ, ◌∙◌, ◌≡◌, ◌⊎◌}
-use Rattle.cyp_grammar.specs.Lexemes.{Lexeme}
-use Rattle.cyp_grammar.specs.Readers.{Read, enclosed, heads, ident_token, is_name, is_sign, sign_place, ◌>>=◌}
-use Rattle.cyp_grammar.specs.declared.ident.Ident.{Ident}
-use Rattle.cyp_grammar.specs.declared.want.Want.TheVariants.{AName}
+use Rattle.cyp_lex.specs.Lexemes.{Lexeme}
+use Rattle.cyp_lex.specs.Readers.{Read, enclosed, heads, ident_token, is_name, is_sign, sign_place, ◌>>=◌}
+use Rattle.cyp_lex.specs.declared.ident.Ident.{Ident}
+use Rattle.cyp_lex.specs.declared.want.Want.TheVariants.{AName}
 use Rattle.cyp_lex.specs.declared.token.Sign.TheVariants.{LeftBrace, RightBrace}
 use Rattle.cyp_text.specs.TermReaders.{Inner, begins_int, braced_terms, braces_at, inner, int_at, part_at, part_tree}
 use Rattle.cyp_text.specs.declared.tree.IntTree.{IntTree}

@@ -1,9 +1,9 @@
 -- Choices that the first or the second lexeme tells, where no test is made that the code does not make.
 use Rattle.std.proofs.Common.{Bool, List, [], false, refl, true, ◌∷◌, ◌≡◌}
 use Rattle.std.specs.Prelude.{◌||◌}
-use Rattle.cyp_grammar.specs.Lexemes.{Lexeme, Said}
-use Rattle.cyp_grammar.specs.Readers.{Read, either_by, first_tells, heads, left_by_second, mapped, one_of, second_tells, ◌>>=◌}
-use Rattle.cyp_grammar.specs.declared.want.Want.{Want}
+use Rattle.cyp_lex.specs.Lexemes.{Lexeme, Said}
+use Rattle.cyp_lex.specs.Readers.{Read, either_by, first_tells, heads, left_by_second, mapped, one_of, second_tells, ◌>>=◌}
+use Rattle.cyp_lex.specs.declared.want.Want.{Want}
 use Rattle.cyp_text.specs.ListReaders.{Refuses}
 use Rattle.cyp_text.proofs.ListsRead.{first_left, pick_left, pick_right, to_left, to_right}
 

@@ -2,21 +2,21 @@
 use Rattle.std.proofs.Common.{◌≡◌, ℕ, Bool, true, List, [], ◌∷◌, ◌⊎◌, inl, inr, refl}
 use Rattle.cyp_lex.specs.declared.token.Sign.TheVariants.{Comma, LeftBracket, LeftParen, PointsTo, RightBracket, RightParen, TwoStars}
 use Rattle.cyp_lex.specs.declared.token.Word.TheVariants.{Emp}
-use Rattle.cyp_grammar.specs.Lexemes.{Name, Reserved, Said, Symbol}
-use Rattle.cyp_grammar.specs.Spelling.{Mark, ident}
-use Rattle.cyp_grammar.specs.declared.ident.Ident.{Ident}
-use Rattle.cyp_grammar.specs.Readers.{is_name, is_sign, is_word, one_of}
-use Rattle.cyp_grammar.specs.declared.want.Want.TheVariants.{AName, NoName}
-use Rattle.cyp_grammar.proofs.Readings.{Apart, Reads, Within, apart_none, none, nowhere, within_self}
-use Rattle.cyp_grammar.proofs.Singles.{one}
-use Rattle.cyp_grammar.proofs.Sequences.{both_reads, spell_both}
-use Rattle.cyp_grammar.proofs.Mapped.{mapped_reads}
-use Rattle.cyp_grammar.proofs.Choices.{spell_either}
-use Rattle.cyp_grammar.proofs.Lists.{listed_spelling}
-use Rattle.cyp_grammar.proofs.Tellers.{ident_reads, placed_mark, placed_number_reads, sign_listing_reads, sign_mark, sign_reads, word_mark, word_reads}
-use Rattle.cyp_grammar.proofs.Firsts.{NameBegins, first_reads, name_both, name_ident, name_left, name_listed, name_mapped, name_right}
-use Rattle.cyp_grammar.proofs.Enclosures.{enclosed_reads, enclosed_spelling, name_enclosed}
-use Rattle.cyp_grammar.proofs.Behinds.{NameLeads, leads_either, leads_listed, leads_mapped, leads_name, leads_no_name}
+use Rattle.cyp_lex.specs.Lexemes.{Name, Reserved, Said, Symbol}
+use Rattle.cyp_lex.specs.Spelling.{Mark, ident}
+use Rattle.cyp_lex.specs.declared.ident.Ident.{Ident}
+use Rattle.cyp_lex.specs.Readers.{is_name, is_sign, is_word, one_of}
+use Rattle.cyp_lex.specs.declared.want.Want.TheVariants.{AName, NoName}
+use Rattle.cyp_lex.proofs.Readings.{Apart, Reads, Within, apart_none, none, nowhere, within_self}
+use Rattle.cyp_lex.proofs.Singles.{one}
+use Rattle.cyp_lex.proofs.Sequences.{both_reads, spell_both}
+use Rattle.cyp_lex.proofs.Mapped.{mapped_reads}
+use Rattle.cyp_lex.proofs.Choices.{spell_either}
+use Rattle.cyp_lex.proofs.Lists.{listed_spelling}
+use Rattle.cyp_lex.proofs.Tellers.{ident_reads, placed_mark, placed_number_reads, sign_listing_reads, sign_mark, sign_reads, word_mark, word_reads}
+use Rattle.cyp_lex.proofs.Firsts.{NameBegins, first_reads, name_both, name_ident, name_left, name_listed, name_mapped, name_right}
+use Rattle.cyp_lex.proofs.Enclosures.{enclosed_reads, enclosed_spelling, name_enclosed}
+use Rattle.cyp_lex.proofs.Behinds.{NameLeads, leads_either, leads_listed, leads_mapped, leads_name, leads_no_name}
 use Rattle.cyp_text.specs.declared.tree.ArgTree.{ArgTree}
 use Rattle.cyp_text.specs.declared.tree.ChunkTree.{ChunkTree}
 use Rattle.cyp_text.specs.declared.tree.ChunkTree.TheVariants.{BlockOf, InstanceOf, NamedCell, TermCell}

@@ -1,7 +1,7 @@
 -- The terms and set variables of what is read: which terms and names of the tree say them.
 use Rattle.std.proofs.Common.{List, Some, [], filter, flat_map, false, inl, inr, not, refl, true, ◌++◌, ◌∷◌, ◌≡◌, ◌≢◌, ◌⊎◌}
 use Rattle.std.specs.Prelude.{Bool, cond}
-use Rattle.cyp_grammar.specs.declared.ident.Ident.{Ident}
+use Rattle.cyp_lex.specs.declared.ident.Ident.{Ident}
 use Rattle.cyp_heap.specs.PredsFormed.{arg_set_vars, arg_terms, chunk_set_vars, chunk_terms, lit_terms}
 use Rattle.cyp_term.specs.Regions.{lit_set_vars}
 use Rattle.cyp_term.specs.Terms.{negated, term_eq, var_eq}

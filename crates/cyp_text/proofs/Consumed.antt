@@ -1,13 +1,13 @@
 -- What is read takes a lexeme at least.
 use Rattle.std.proofs.Common.{Err, List, Ok, Result, [], ap, arith, length, length-append, subst, suc, ℕ, ◌++◌, ◌<◌, ◌∷◌, ◌≡◌}
 use Rattle.std.specs.Prelude.{Bool}
-use Rattle.cyp_grammar.specs.Lexemes.{Lexeme, Said}
-use Rattle.cyp_grammar.specs.Readers.{Read}
-use Rattle.cyp_grammar.specs.Spelling.{IsEnd, Mark, Match}
-use Rattle.cyp_grammar.proofs.Readings.{Reads, Sound, Took}
+use Rattle.cyp_lex.specs.Lexemes.{Lexeme, Said}
+use Rattle.cyp_lex.specs.Readers.{Read}
+use Rattle.cyp_lex.specs.Spelling.{IsEnd, Mark, Match}
+use Rattle.cyp_lex.proofs.Readings.{Reads, Sound, Took}
 use Rattle.cyp_text.specs.ListReaders.{Consumes, IsShorter}
 use Rattle.cyp_text.specs.Parsing.{Gives}
-use Rattle.cyp_grammar.specs.declared.want.Want.{Want}
+use Rattle.cyp_lex.specs.declared.want.Want.{Want}
 use Rattle.cyp_term.specs.declared.fail.Fail.{Fail}
 
 pub consumes : {A : Type 0} {sp : A → List Mark} {s f : Said → Bool} {p : List Lexeme → Read A} → ((n : ℕ) → Reads n A sp s f p) → Consumes p

@@ -1,12 +1,12 @@
 -- Lexemes spell at most one tree, and for each list of lexemes a tree is found or the place where no text goes on so.
 use Rattle.std.proofs.Common.{Err, List, Ok, Result, [], inl, inr, refl, ◌∷◌, ◌≡◌, ◌⊎◌}
-use Rattle.cyp_grammar.specs.Beginnings.{Refused}
-use Rattle.cyp_grammar.specs.Lexemes.{Lexeme}
-use Rattle.cyp_grammar.specs.Readers.{Stop, whole_of}
-use Rattle.cyp_grammar.specs.declared.want.Want.{Want}
-use Rattle.cyp_grammar.specs.declared.want.Want.TheVariants.{AName, NoName}
-use Rattle.cyp_grammar.proofs.Stops.{IsReading, IsStop}
-use Rattle.cyp_grammar.proofs.Wholes.{spelled_once, whole_reads}
+use Rattle.cyp_lex.specs.Beginnings.{Refused}
+use Rattle.cyp_lex.specs.Lexemes.{Lexeme}
+use Rattle.cyp_lex.specs.Readers.{Stop, whole_of}
+use Rattle.cyp_lex.specs.declared.want.Want.{Want}
+use Rattle.cyp_lex.specs.declared.want.Want.TheVariants.{AName, NoName}
+use Rattle.cyp_lex.proofs.Stops.{IsReading, IsStop}
+use Rattle.cyp_lex.proofs.Wholes.{spelled_once, whole_reads}
 use Rattle.cyp_text.specs.Grammar.{text_spelling}
 use Rattle.cyp_text.specs.ReadingLaws.{OneTree}
 use Rattle.cyp_text.specs.TextReaders.{text_at}

@@ -1,6 +1,6 @@
 -- Short forms for worked examples.
 use Rattle.std.specs.Prelude.{Err, List, None, Ok, Option, Result, Some, [], codes, map, pos, ℕ, ◌∷◌}
-use Rattle.cyp_grammar.specs.Lexemes.{Lexeme, lexeme_of}
+use Rattle.cyp_lex.specs.Lexemes.{Lexeme, lexeme_of}
 use Rattle.cyp_heap.specs.declared.chunk.Arg.{Arg}
 use Rattle.cyp_heap.specs.declared.chunk.Arg.TheVariants.{Int as IntArg, Set as SetArg}
 use Rattle.cyp_heap.specs.declared.chunk.Chunk.{Chunk}

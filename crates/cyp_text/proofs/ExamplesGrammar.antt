@@ -1,10 +1,10 @@
 -- Worked examples of texts that are refused by the grammar.
 use Rattle.std.specs.Prelude.{List, [], codes, ℕ, ◌++◌, ◌∷◌, ◌≡◌}
 use Rattle.std.proofs.Common.{refl, inl, inr, sym, ◌∙◌}
-use Rattle.cyp_grammar.specs.Beginnings.{Begins}
-use Rattle.cyp_grammar.specs.Lexemes.{Lexeme, Name, Reserved, Said}
-use Rattle.cyp_grammar.specs.Spelling.{Mark, Match, all_spelling, ident, word}
-use Rattle.cyp_grammar.specs.declared.ident.Ident.{Ident}
+use Rattle.cyp_lex.specs.Beginnings.{Begins}
+use Rattle.cyp_lex.specs.Lexemes.{Lexeme, Name, Reserved, Said}
+use Rattle.cyp_lex.specs.Spelling.{Mark, Match, all_spelling, ident, word}
+use Rattle.cyp_lex.specs.declared.ident.Ident.{Ident}
 use Rattle.cyp_lex.specs.Lexing.{lexed, name_kind, piece_at, sign_at, stands}
 use Rattle.cyp_lex.specs.declared.fault.FaultKind.TheVariants.{Expected, MissingProcedure, ReservedName}
 use Rattle.cyp_lex.specs.declared.token.Word.TheVariants.{If, Predicate, Void}

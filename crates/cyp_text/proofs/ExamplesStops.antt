@@ -1,9 +1,9 @@
 -- Worked examples of the first lexeme that no text allows.
 use Rattle.std.specs.Prelude.{List, [], codes, drop, length, take, ℕ, ◌++◌, ◌∷◌, ◌≡◌}
 use Rattle.std.proofs.Common.{refl, inl, inr}
-use Rattle.cyp_grammar.specs.Lexemes.{Lexeme, Name, Number, Reserved, Said, Symbol, Variable}
-use Rattle.cyp_grammar.specs.Readers.{Stop}
-use Rattle.cyp_grammar.specs.declared.want.Want.TheVariants.{AName, NoName}
+use Rattle.cyp_lex.specs.Lexemes.{Lexeme, Name, Number, Reserved, Said, Symbol, Variable}
+use Rattle.cyp_lex.specs.Readers.{Stop}
+use Rattle.cyp_lex.specs.declared.want.Want.TheVariants.{AName, NoName}
 use Rattle.cyp_lex.specs.Lexing.{lexed, name_kind, piece_at, sign_at, stands}
 use Rattle.cyp_lex.specs.declared.fault.FaultKind.TheVariants.{Expected, MissingProcedure, NotDifference, ReservedName}
 use Rattle.cyp_lex.specs.declared.token.Sign.TheVariants.{Minus}

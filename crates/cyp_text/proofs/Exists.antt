@@ -2,8 +2,8 @@
 use Rattle.std.proofs.Common.{Err, List, Ok, Result, [], false, inl, inr, length, map, refl, subst, sym, true, ℕ, ◌++◌, ◌∙◌, ◌∷◌, ◌≡◌, ◌⊎◌}
 use Rattle.std.specs.Prelude.{Bool, nat_le}
 use Rattle.std.proofs.lemmas.List.{append-nil}
-use Rattle.cyp_grammar.specs.Beginnings.{Begins}
-use Rattle.cyp_grammar.specs.Lexemes.{Lexeme, Reserved, Said, lexeme_of}
+use Rattle.cyp_lex.specs.Beginnings.{Begins}
+use Rattle.cyp_lex.specs.Lexemes.{Lexeme, Reserved, Said, lexeme_of}
 use Rattle.cyp_lex.specs.Lexing.{tokens_of}
 use Rattle.cyp_lex.specs.declared.fault.Fault.{Fault}
 use Rattle.cyp_lex.specs.declared.fault.FaultKind.{FaultKind}

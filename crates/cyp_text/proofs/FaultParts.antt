@@ -1,8 +1,8 @@
 -- The tokens before and behind the place where the reader stops.
 use Rattle.std.proofs.Common.{List, ap, arith, drop, get_or, length, map, suc, take, ℕ, ◌++◌, ◌-◌, ◌<◌, ◌≤◌, ◌∙◌}
 use Rattle.std.proofs.lemmas.List.{length-map}
-use Rattle.cyp_grammar.specs.Beginnings.{Begins}
-use Rattle.cyp_grammar.specs.Lexemes.{Lexeme, lexeme_of}
+use Rattle.cyp_lex.specs.Beginnings.{Begins}
+use Rattle.cyp_lex.specs.Lexemes.{Lexeme, lexeme_of}
 use Rattle.cyp_lex.specs.declared.fault.FaultKind.{FaultKind}
 use Rattle.cyp_lex.specs.declared.token.Token.{Token}
 use Rattle.cyp_text.specs.Grammar.{text_spelling}

@@ -1,8 +1,8 @@
 -- Fronts of what a text of the grammar begins with.
 use Rattle.std.proofs.Common.{List, [], append_assoc, subst, sym, ◌++◌, ◌∙◌, ◌∷◌}
-use Rattle.cyp_grammar.specs.Beginnings.{Begins}
-use Rattle.cyp_grammar.specs.Lexemes.{Lexeme}
-use Rattle.cyp_grammar.specs.Spelling.{Match}
+use Rattle.cyp_lex.specs.Beginnings.{Begins}
+use Rattle.cyp_lex.specs.Lexemes.{Lexeme}
+use Rattle.cyp_lex.specs.Spelling.{Match}
 use Rattle.cyp_text.specs.Grammar.{text_spelling}
 use Rattle.cyp_text.specs.declared.tree.TextTree.{TextTree}
 

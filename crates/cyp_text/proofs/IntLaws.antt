@@ -1,19 +1,19 @@
 -- Terms are read as they are spelled.
 use Rattle.std.proofs.Common.{◌≡◌, ℕ, Bool, true, false, List, Option, Some, None, ◌⊎◌, inl, inr, refl}
 use Rattle.cyp_lex.specs.declared.token.Sign.TheVariants.{Minus, Plus}
-use Rattle.cyp_grammar.specs.Lexemes.{Name, Number, Said, Symbol}
-use Rattle.cyp_grammar.specs.Spelling.{Any, At, Mark, ident}
-use Rattle.cyp_grammar.specs.declared.ident.Ident.{Ident}
-use Rattle.cyp_grammar.specs.Readers.{is_name, is_number, is_sign}
-use Rattle.cyp_grammar.specs.declared.want.Want.TheVariants.{NoName}
-use Rattle.cyp_grammar.proofs.Readings.{Apart, Reads, Within, apart_none, less_reads, none, nowhere, within_self}
-use Rattle.cyp_grammar.proofs.Singles.{one}
-use Rattle.cyp_grammar.proofs.Sequences.{both_reads, spell_both}
-use Rattle.cyp_grammar.proofs.Mapped.{closed_reads, mapped_reads}
-use Rattle.cyp_grammar.proofs.Options.{option_reads, spell_option}
-use Rattle.cyp_grammar.proofs.Choices.{spell_either}
-use Rattle.cyp_grammar.proofs.Tellers.{Tells, ident_reads, number_mark, number_token_reads, placed_mark, placed_number_reads, plainly_reads, sign_mark, sign_place_reads, sign_reads}
-use Rattle.cyp_grammar.proofs.Firsts.{NameBegins, first_reads, name_ident, name_mapped, name_option, name_right}
+use Rattle.cyp_lex.specs.Lexemes.{Name, Number, Said, Symbol}
+use Rattle.cyp_lex.specs.Spelling.{Any, At, Mark, ident}
+use Rattle.cyp_lex.specs.declared.ident.Ident.{Ident}
+use Rattle.cyp_lex.specs.Readers.{is_name, is_number, is_sign}
+use Rattle.cyp_lex.specs.declared.want.Want.TheVariants.{NoName}
+use Rattle.cyp_lex.proofs.Readings.{Apart, Reads, Within, apart_none, less_reads, none, nowhere, within_self}
+use Rattle.cyp_lex.proofs.Singles.{one}
+use Rattle.cyp_lex.proofs.Sequences.{both_reads, spell_both}
+use Rattle.cyp_lex.proofs.Mapped.{closed_reads, mapped_reads}
+use Rattle.cyp_lex.proofs.Options.{option_reads, spell_option}
+use Rattle.cyp_lex.proofs.Choices.{spell_either}
+use Rattle.cyp_lex.proofs.Tellers.{Tells, ident_reads, number_mark, number_token_reads, placed_mark, placed_number_reads, plainly_reads, sign_mark, sign_place_reads, sign_reads}
+use Rattle.cyp_lex.proofs.Firsts.{NameBegins, first_reads, name_ident, name_mapped, name_option, name_right}
 use Rattle.cyp_text.specs.declared.tree.IntTree.{IntTree}
 use Rattle.cyp_text.specs.declared.tree.IntTree.TheVariants.{MinusNum, NameMinus, NamePlus, Named, Num, NumPlus}
 use Rattle.cyp_text.specs.Grammar.{int_spelling}

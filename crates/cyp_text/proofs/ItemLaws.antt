@@ -2,19 +2,19 @@
 use Rattle.std.proofs.Common.{◌≡◌, ℕ, Bool, List, Some, ◌⊎◌, inl, inr, refl, ap}
 use Rattle.cyp_lex.specs.declared.token.Sign.TheVariants.{AndAnd, Minus, Plus, Semicolon, SlashAnd, TwoPluses}
 use Rattle.cyp_lex.specs.declared.token.Word.TheVariants.{True}
-use Rattle.cyp_grammar.specs.Lexemes.{Name, Reserved, Said, Symbol}
-use Rattle.cyp_grammar.specs.Spelling.{Any, Mark}
-use Rattle.cyp_grammar.specs.Readers.{sign_token, is_sign, is_word, one_of, plainly, single}
-use Rattle.cyp_grammar.specs.declared.want.Want.TheVariants.{NoName}
-use Rattle.cyp_grammar.proofs.Readings.{Apart, Reads, apart_none, none, nowhere, within_self}
-use Rattle.cyp_grammar.proofs.Singles.{one}
-use Rattle.cyp_grammar.proofs.Sequences.{both_reads, spell_both}
-use Rattle.cyp_grammar.proofs.Mapped.{mapped_reads}
-use Rattle.cyp_grammar.proofs.Choices.{spell_either}
-use Rattle.cyp_grammar.proofs.Tellers.{Tells, plainly_reads, sign_mark, sign_reads, word_mark, word_reads}
-use Rattle.cyp_grammar.proofs.Firsts.{NameBegins, first_reads, name_mapped, name_right}
-use Rattle.cyp_grammar.proofs.Repeats.{repeated_spelling, repeating_reads}
-use Rattle.cyp_grammar.proofs.Behinds.{NameLeads, leads_both, leads_either, leads_mapped, leads_no_name}
+use Rattle.cyp_lex.specs.Lexemes.{Name, Reserved, Said, Symbol}
+use Rattle.cyp_lex.specs.Spelling.{Any, Mark}
+use Rattle.cyp_lex.specs.Readers.{sign_token, is_sign, is_word, one_of, plainly, single}
+use Rattle.cyp_lex.specs.declared.want.Want.TheVariants.{NoName}
+use Rattle.cyp_lex.proofs.Readings.{Apart, Reads, apart_none, none, nowhere, within_self}
+use Rattle.cyp_lex.proofs.Singles.{one}
+use Rattle.cyp_lex.proofs.Sequences.{both_reads, spell_both}
+use Rattle.cyp_lex.proofs.Mapped.{mapped_reads}
+use Rattle.cyp_lex.proofs.Choices.{spell_either}
+use Rattle.cyp_lex.proofs.Tellers.{Tells, plainly_reads, sign_mark, sign_reads, word_mark, word_reads}
+use Rattle.cyp_lex.proofs.Firsts.{NameBegins, first_reads, name_mapped, name_right}
+use Rattle.cyp_lex.proofs.Repeats.{repeated_spelling, repeating_reads}
+use Rattle.cyp_lex.proofs.Behinds.{NameLeads, leads_both, leads_either, leads_mapped, leads_no_name}
 use Rattle.cyp_text.specs.LitTrees.{LitTree}
 use Rattle.cyp_text.specs.declared.tree.Conjunction.{Conjunction}
 use Rattle.cyp_text.specs.declared.tree.Conjunction.TheVariants.{Ampersands, Slashes}

@@ -1,14 +1,14 @@
 -- The kind of the fault of a token that is refused.
 use Rattle.std.proofs.Common.{Bool, Err, List, Ok, Result, [], ap, arith, false, get_or, inl, inr, length, map, refl, subst, sym, take, true, ℕ, ◌++◌, ◌-◌, ◌<◌, ◌≤◌, ◌∙◌, ◌∷◌, ◌≡◌}
 use Rattle.std.specs.Result.{IfOk}
-use Rattle.cyp_grammar.specs.Readers.{is_sign}
-use Rattle.cyp_grammar.specs.declared.want.Want.{Want}
-use Rattle.cyp_grammar.specs.declared.want.Want.TheVariants.{AName, NoName}
-use Rattle.cyp_grammar.proofs.SameSigns.{sign_is}
+use Rattle.cyp_lex.specs.Readers.{is_sign}
+use Rattle.cyp_lex.specs.declared.want.Want.{Want}
+use Rattle.cyp_lex.specs.declared.want.Want.TheVariants.{AName, NoName}
+use Rattle.cyp_lex.proofs.SameSigns.{sign_is}
 use Rattle.cyp_lex.specs.declared.token.Sign.{Sign}
 use Rattle.cyp_term.specs.declared.fail.NoMemory.{NoMemory}
 use Rattle.cyp_text.proofs.TokensParted.{last_lexemes, no_token}
-use Rattle.cyp_grammar.specs.Lexemes.{Lexeme, Name, Number, Reserved, Said, Symbol, Variable, lexeme_of, said_by}
+use Rattle.cyp_lex.specs.Lexemes.{Lexeme, Name, Number, Reserved, Said, Symbol, Variable, lexeme_of, said_by}
 use Rattle.cyp_lex.specs.declared.fault.FaultKind.TheVariants.{Expected, ReservedName}
 use Rattle.cyp_lex.specs.declared.token.Sign.TheVariants.{Minus, Plus}
 use Rattle.cyp_lex.specs.declared.token.Token.{Token}

@@ -1,9 +1,9 @@
 -- Lists up to what ends them are read part after part.
 use Rattle.std.proofs.Common.{Bool, Err, List, Ok, [], ap, arith, false, inl, inr, length, refl, suc, sym, true, zero, ℕ, ◌<◌, ◌∙◌, ◌∷◌, ◌≡◌, ◌⊎◌}
-use Rattle.cyp_grammar.specs.Lexemes.{Lexeme, Said}
-use Rattle.cyp_grammar.specs.Readers.{Read, both, first_tells, heads, mapped, pick_by, repeated, repeated_tree, repeating, ◌>>=◌}
-use Rattle.cyp_grammar.specs.declared.want.Want.{Want}
-use Rattle.cyp_grammar.specs.declared.want.Want.TheVariants.{NoName}
+use Rattle.cyp_lex.specs.Lexemes.{Lexeme, Said}
+use Rattle.cyp_lex.specs.Readers.{Read, both, first_tells, heads, mapped, pick_by, repeated, repeated_tree, repeating, ◌>>=◌}
+use Rattle.cyp_lex.specs.declared.want.Want.{Want}
+use Rattle.cyp_lex.specs.declared.want.Want.TheVariants.{NoName}
 use Rattle.cyp_text.specs.ListReaders.{Consumes, Refuses, cons_rest, many, more_by}
 use Rattle.cyp_text.proofs.Many.{many_is}
 

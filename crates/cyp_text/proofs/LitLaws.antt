@@ -2,17 +2,17 @@
 use Rattle.std.proofs.Common.{◌≡◌, ℕ, Bool, true, false, List, [], ◌∷◌, Some, inl, inr, refl, ap, ◌∙◌}
 use Rattle.cyp_lex.specs.declared.token.Sign.TheVariants.{AtLeast, AtMost, Equal, Greater, LeftBrace, Less, Minus, Plus, Same, Subset, TwoPluses, Unequal}
 use Rattle.cyp_lex.specs.declared.token.Word.TheVariants.{In}
-use Rattle.cyp_grammar.specs.Lexemes.{Lexeme, Name, Reserved, Said, Symbol}
-use Rattle.cyp_grammar.specs.Spelling.{Any, Mark, Then}
-use Rattle.cyp_grammar.specs.Readers.{both, is_sign, is_word, one_of, word_token}
-use Rattle.cyp_grammar.specs.declared.want.Want.TheVariants.{NoName}
-use Rattle.cyp_grammar.proofs.Readings.{Apart, Reads, Within, apart_none, none, within_self}
-use Rattle.cyp_grammar.proofs.Singles.{one}
-use Rattle.cyp_grammar.proofs.Sequences.{both_reads, spell_both}
-use Rattle.cyp_grammar.proofs.Choices.{spell_either}
-use Rattle.cyp_grammar.proofs.Tellers.{Tells, plainly_reads, word_mark, word_reads}
-use Rattle.cyp_grammar.proofs.Firsts.{NameBegins, first_reads, name_both, name_left, or_left, or_right}
-use Rattle.cyp_grammar.proofs.Seconds.{ApartButNames, Behind, Leads, second_reads}
+use Rattle.cyp_lex.specs.Lexemes.{Lexeme, Name, Reserved, Said, Symbol}
+use Rattle.cyp_lex.specs.Spelling.{Any, Mark, Then}
+use Rattle.cyp_lex.specs.Readers.{both, is_sign, is_word, one_of, word_token}
+use Rattle.cyp_lex.specs.declared.want.Want.TheVariants.{NoName}
+use Rattle.cyp_lex.proofs.Readings.{Apart, Reads, Within, apart_none, none, within_self}
+use Rattle.cyp_lex.proofs.Singles.{one}
+use Rattle.cyp_lex.proofs.Sequences.{both_reads, spell_both}
+use Rattle.cyp_lex.proofs.Choices.{spell_either}
+use Rattle.cyp_lex.proofs.Tellers.{Tells, plainly_reads, word_mark, word_reads}
+use Rattle.cyp_lex.proofs.Firsts.{NameBegins, first_reads, name_both, name_left, or_left, or_right}
+use Rattle.cyp_lex.proofs.Seconds.{ApartButNames, Behind, Leads, second_reads}
 use Rattle.cyp_text.specs.declared.tree.Comparison.{Comparison}
 use Rattle.cyp_text.specs.declared.tree.Comparison.TheVariants.{IsAbove, IsAtLeast, IsAtMost, IsBelow, IsEqual, IsUnequal}
 use Rattle.cyp_text.specs.declared.tree.IntTree.{IntTree}

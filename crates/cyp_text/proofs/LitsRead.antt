@@ -1,8 +1,8 @@
 -- How the code reads negations.
 use Rattle.std.proofs.Common.{Err, List, Ok, [], ap, arith, length, refl, ℕ, ◌<◌, ◌≡◌}
-use Rattle.cyp_grammar.specs.Lexemes.{Lexeme}
-use Rattle.cyp_grammar.specs.Readers.{Read, is_sign, is_word, kind_tells, place_if, sign_token, word_place, ◌>>=◌}
-use Rattle.cyp_grammar.specs.declared.want.Want.TheVariants.{NoName}
+use Rattle.cyp_lex.specs.Lexemes.{Lexeme}
+use Rattle.cyp_lex.specs.Readers.{Read, is_sign, is_word, kind_tells, place_if, sign_token, word_place, ◌>>=◌}
+use Rattle.cyp_lex.specs.declared.want.Want.TheVariants.{NoName}
 use Rattle.cyp_lex.specs.declared.token.Sign.TheVariants.{LeftParen}
 use Rattle.cyp_lex.specs.declared.token.Word.TheVariants.{Not}
 use Rattle.cyp_text.specs.ListReaders.{Consumes}

@@ -1,8 +1,8 @@
 -- Lists of items are read as the readers of lists say.
 use Rattle.std.proofs.Common.{Bool, Err, List, None, Ok, Option, Some, [], ap, append_assoc, append-nil, arith, false, length, refl, suc, sym, true, zero, ℕ, ◌++◌, ◌<◌, ◌∙◌, ◌∷◌, ◌≡◌}
-use Rattle.cyp_grammar.specs.Lexemes.{Lexeme, Said}
-use Rattle.cyp_grammar.specs.Readers.{Read, Stop, heads, single, token_or, ◌>>=◌}
-use Rattle.cyp_grammar.specs.declared.want.Want.{Want}
+use Rattle.cyp_lex.specs.Lexemes.{Lexeme, Said}
+use Rattle.cyp_lex.specs.Readers.{Read, Stop, heads, single, token_or, ◌>>=◌}
+use Rattle.cyp_lex.specs.declared.want.Want.{Want}
 use Rattle.cyp_text.specs.ListReaders.{Consumes, cons_rest, many, many_in, more_by, with_front}
 
 -- ---- one item and the others

@@ -1,10 +1,10 @@
 -- Readers that give the same are right together.
 use Rattle.std.proofs.Common.{Bool, List, refl, subst, ◌≡◌, ◌∷◌, [], ℕ}
-use Rattle.cyp_grammar.specs.Lexemes.{Lexeme, Said}
-use Rattle.cyp_grammar.specs.Readers.{Read, is_sign, is_word, sign_token, word_token}
-use Rattle.cyp_grammar.specs.Spelling.{Mark}
-use Rattle.cyp_grammar.specs.declared.want.Want.TheVariants.{NoName}
-use Rattle.cyp_grammar.proofs.Readings.{Reads, Sound}
+use Rattle.cyp_lex.specs.Lexemes.{Lexeme, Said}
+use Rattle.cyp_lex.specs.Readers.{Read, is_sign, is_word, sign_token, word_token}
+use Rattle.cyp_lex.specs.Spelling.{Mark}
+use Rattle.cyp_lex.specs.declared.want.Want.TheVariants.{NoName}
+use Rattle.cyp_lex.proofs.Readings.{Reads, Sound}
 use Rattle.cyp_lex.specs.declared.token.Sign.{Sign}
 use Rattle.cyp_lex.specs.declared.token.Word.{Word}
 use Rattle.cyp_text.specs.ListReaders.{Refuses}

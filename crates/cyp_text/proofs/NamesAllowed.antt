@@ -1,9 +1,9 @@
 -- Whether a name may stand behind lexemes that a text begins with, where the grammar is decided for each list of lexemes.
 use Rattle.std.proofs.Common.{List, [], inl, inr, subst, sym, ℕ, ◌++◌, ◌∙◌, ◌∷◌, ◌≡◌, ◌⊎◌}
 use Rattle.std.proofs.lemmas.List.{append-nil}
-use Rattle.cyp_grammar.specs.Beginnings.{Begins}
-use Rattle.cyp_grammar.specs.Lexemes.{Lexeme}
-use Rattle.cyp_grammar.specs.Spelling.{Match}
+use Rattle.cyp_lex.specs.Beginnings.{Begins}
+use Rattle.cyp_lex.specs.Lexemes.{Lexeme}
+use Rattle.cyp_lex.specs.Spelling.{Match}
 use Rattle.cyp_text.specs.Grammar.{text_spelling}
 use Rattle.cyp_text.specs.GrammarFaults.{AllowsName, name_at}
 use Rattle.cyp_text.specs.declared.tree.TextTree.{TextTree}

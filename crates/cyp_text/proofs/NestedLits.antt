@@ -1,8 +1,8 @@
 -- Literals read one negation inside the other, and that this is how the negations in a row are read.
 use Rattle.std.proofs.Common.{Bool, Err, List, Ok, ap, arith, false, inl, inr, length, refl, suc, sym, true, zero, ℕ, ◌<◌, ◌∙◌, ◌∷◌, ◌≡◌, ◌⊎◌}
-use Rattle.cyp_grammar.specs.Lexemes.{Lexeme}
-use Rattle.cyp_grammar.specs.Readers.{Read, both, first_tells, heads, is_sign, is_word, kind_tells, mapped, place_if, sign_token, stop, word_place, ◌>>=◌}
-use Rattle.cyp_grammar.specs.declared.want.Want.TheVariants.{AName, NoName}
+use Rattle.cyp_lex.specs.Lexemes.{Lexeme}
+use Rattle.cyp_lex.specs.Readers.{Read, both, first_tells, heads, is_sign, is_word, kind_tells, mapped, place_if, sign_token, stop, word_place, ◌>>=◌}
+use Rattle.cyp_lex.specs.declared.want.Want.TheVariants.{AName, NoName}
 use Rattle.cyp_lex.specs.declared.token.Sign.TheVariants.{LeftParen, RightParen}
 use Rattle.cyp_lex.specs.declared.token.Word.TheVariants.{Not}
 use Rattle.cyp_text.specs.ListReaders.{Refuses, cons_rest, many, more_by}

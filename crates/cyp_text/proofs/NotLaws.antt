@@ -2,17 +2,17 @@
 use Rattle.std.proofs.Common.{◌≡◌, ℕ, zero, suc, Bool, true, false, List, [], ◌∷◌, ◌⊎◌, inl, inr, refl, ap, subst, length, arith}
 use Rattle.cyp_lex.specs.declared.token.Sign.TheVariants.{LeftParen, RightParen}
 use Rattle.cyp_lex.specs.declared.token.Word.TheVariants.{Not}
-use Rattle.cyp_grammar.specs.Lexemes.{Lexeme, Name, Reserved, Symbol}
-use Rattle.cyp_grammar.specs.Spelling.{At, Mark, Then}
-use Rattle.cyp_grammar.specs.Readers.{Read, both, is_sign, is_word, sign_token, word_place}
-use Rattle.cyp_grammar.proofs.Readings.{Apart, Reads, Sound, apart_none, none, nowhere, within_self}
-use Rattle.cyp_grammar.proofs.Singles.{one}
-use Rattle.cyp_grammar.proofs.Sequences.{both_reads, spell_both, then_reads}
-use Rattle.cyp_grammar.proofs.Mapped.{mapped_reads}
-use Rattle.cyp_grammar.proofs.Choices.{spell_either}
-use Rattle.cyp_grammar.proofs.Tellers.{sign_mark, sign_reads, word_place_reads}
-use Rattle.cyp_grammar.proofs.Firsts.{NameBegins, first_reads, name_mapped, name_right, or_right}
-use Rattle.cyp_grammar.proofs.Behinds.{NameLeads, leads_either, leads_mapped}
+use Rattle.cyp_lex.specs.Lexemes.{Lexeme, Name, Reserved, Symbol}
+use Rattle.cyp_lex.specs.Spelling.{At, Mark, Then}
+use Rattle.cyp_lex.specs.Readers.{Read, both, is_sign, is_word, sign_token, word_place}
+use Rattle.cyp_lex.proofs.Readings.{Apart, Reads, Sound, apart_none, none, nowhere, within_self}
+use Rattle.cyp_lex.proofs.Singles.{one}
+use Rattle.cyp_lex.proofs.Sequences.{both_reads, spell_both, then_reads}
+use Rattle.cyp_lex.proofs.Mapped.{mapped_reads}
+use Rattle.cyp_lex.proofs.Choices.{spell_either}
+use Rattle.cyp_lex.proofs.Tellers.{sign_mark, sign_reads, word_place_reads}
+use Rattle.cyp_lex.proofs.Firsts.{NameBegins, first_reads, name_mapped, name_right, or_right}
+use Rattle.cyp_lex.proofs.Behinds.{NameLeads, leads_either, leads_mapped}
 use Rattle.cyp_text.specs.LitTrees.{Comparing, Inside, LitTree, Negation, SameSets, SubSets}
 use Rattle.cyp_text.specs.declared.tree.IntTree.{IntTree}
 use Rattle.cyp_text.specs.declared.tree.SetTree.{SetTree}

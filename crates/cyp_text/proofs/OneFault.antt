@@ -1,8 +1,8 @@
 -- Lexemes have at most one fault of the grammar, and none where they spell a tree.
 use Rattle.std.proofs.Common.{List, ap, inl, inr, refl, subst, sym, ℕ, ◌∙◌, ◌≡◌}
-use Rattle.cyp_grammar.specs.Beginnings.{Begins}
-use Rattle.cyp_grammar.specs.Lexemes.{Lexeme, Name, Number, Reserved, Said, Symbol, Variable}
-use Rattle.cyp_grammar.specs.Spelling.{Match}
+use Rattle.cyp_lex.specs.Beginnings.{Begins}
+use Rattle.cyp_lex.specs.Lexemes.{Lexeme, Name, Number, Reserved, Said, Symbol, Variable}
+use Rattle.cyp_lex.specs.Spelling.{Match}
 use Rattle.cyp_lex.specs.declared.fault.Fault.{Fault}
 use Rattle.cyp_lex.specs.declared.fault.FaultKind.{FaultKind}
 use Rattle.cyp_text.specs.Grammar.{text_spelling}

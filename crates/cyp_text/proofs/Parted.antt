@@ -1,6 +1,6 @@
 -- Ways to part a list of lexemes.
 use Rattle.std.proofs.Common.{List, [], ap, refl, ◌++◌, ◌∷◌, ◌≡◌, ◌⊎◌, inl, inr}
-use Rattle.cyp_grammar.specs.Lexemes.{Lexeme}
+use Rattle.cyp_lex.specs.Lexemes.{Lexeme}
 
 -- both ways part it at one place, or one of them parts a front of the other
 pub data Parted (b c : List Lexeme) (l m : Lexeme) : Type 0 where

@@ -1,10 +1,10 @@
 -- What the code that reads lists gives.
 use Rattle.std.proofs.Common.{Bool, Err, List, Ok, Option, Result, Some, [], ap, append-nil, arith, false, length, refl, subst, suc, sym, true, zero, ℕ, ◌++◌, ◌<◌, ◌≤◌, ◌∙◌, ◌∷◌, ◌≡◌}
 use Rattle.std.specs.Result.{IsErr, IsErrAnd}
-use Rattle.cyp_grammar.specs.Lexemes.{Lexeme, Said}
-use Rattle.cyp_grammar.specs.Readers.{Enclosed, Read, Stop, both, cons_of, enclosed, enclosed_list, heads, is_sign, listed, listing, option_by, sign_token, stop, ◌>>=◌}
-use Rattle.cyp_grammar.specs.declared.want.Want.{Want}
-use Rattle.cyp_grammar.specs.declared.want.Want.TheVariants.{NoName}
+use Rattle.cyp_lex.specs.Lexemes.{Lexeme, Said}
+use Rattle.cyp_lex.specs.Readers.{Enclosed, Read, Stop, both, cons_of, enclosed, enclosed_list, heads, is_sign, listed, listing, option_by, sign_token, stop, ◌>>=◌}
+use Rattle.cyp_lex.specs.declared.want.Want.{Want}
+use Rattle.cyp_lex.specs.declared.want.Want.TheVariants.{NoName}
 use Rattle.cyp_lex.specs.declared.token.Sign.{Sign}
 use Rattle.cyp_lex.specs.declared.token.Sign.TheVariants.{Comma}
 use Rattle.cyp_term.specs.declared.fail.Fail.{Fail}

@@ -1,7 +1,7 @@
 -- A plain reader of lexemes, for worked examples alone: nothing is proved of it.
 use Rattle.std.specs.Prelude.{Bool, List, None, Option, Some, [], false, map, option_map, suc, true, zero, ℕ, ◌++◌, ◌∷◌}
-use Rattle.cyp_grammar.specs.Lexemes.{Lexeme, Name, Number, Reserved, Said, Symbol}
-use Rattle.cyp_grammar.specs.declared.ident.Ident.{Ident}
+use Rattle.cyp_lex.specs.Lexemes.{Lexeme, Name, Number, Reserved, Said, Symbol}
+use Rattle.cyp_lex.specs.declared.ident.Ident.{Ident}
 use Rattle.cyp_lex.specs.declared.token.Sign.{Sign}
 use Rattle.cyp_lex.specs.declared.token.Sign.TheVariants.{AndAnd, AtLeast, AtMost, Bar, Comma, Equal, Greater, Implies, LeftBrace, LeftBracket, LeftParen, Less, Minus, Plus, PointsTo, RightBrace, RightBracket, RightParen, Same, Semicolon, SlashAnd, Subset, TwoPluses, TwoStars, Unequal}
 use Rattle.cyp_lex.specs.declared.token.Word.TheVariants.{Emp, In, Int, Loc, Not, Predicate, Set, True, Void}

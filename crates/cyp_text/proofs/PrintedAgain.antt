@@ -4,7 +4,7 @@ use Rattle.std.specs.Prelude.{Bool, slice_get, ◌==◌}
 use Rattle.std.specs.Str.{bytes_eq}
 use Rattle.std.proofs.lemmas.Bool.{eqb-true, eq-eqb}
 use Rattle.std.proofs.lemmas.Slice.Eq.{bytes_eq-Decides}
-use Rattle.cyp_grammar.specs.declared.ident.Ident.{Ident}
+use Rattle.cyp_lex.specs.declared.ident.Ident.{Ident}
 use Rattle.cyp_heap.specs.Formed.{fits_pred, sorts_fit}
 use Rattle.cyp_heap.specs.declared.goal.Goal.{Goal}
 use Rattle.cyp_heap.specs.declared.pred.Pred.{Pred}

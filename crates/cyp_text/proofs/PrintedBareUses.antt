@@ -2,7 +2,7 @@
 use Rattle.std.proofs.Common.{List, None, Option, Some, [], ap, cond, false, filter, flat_map, length, map, not, refl, true, ◌++◌, ◌∙◌, ◌∷◌, ◌≡◌, ℕ, suc}
 use Rattle.std.specs.Prelude.{Bool, ◌==◌}
 use Rattle.std.specs.Str.{bytes_eq}
-use Rattle.cyp_grammar.specs.declared.ident.Ident.{Ident}
+use Rattle.cyp_lex.specs.declared.ident.Ident.{Ident}
 use Rattle.cyp_term.specs.declared.term.Sort.{Sort}
 use Rattle.cyp_term.specs.declared.term.Sort.TheVariants.{Int}
 use Rattle.cyp_text.specs.Bodies.{body_lits, body_uses, in_kinds, is_block, is_cell, is_instance, is_name, is_turned, item_lits, kept_body, kept_lit, kept_parts, kept_set, pure_lits}

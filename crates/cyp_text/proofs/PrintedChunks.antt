@@ -4,7 +4,7 @@ use Rattle.std.specs.Prelude.{Bool, nat_le, ◌==◌}
 use Rattle.std.proofs.lemmas.Bool.{and_from, and_parts}
 use Rattle.cyp_goal.proofs.AllNew.{all_new-without_repeats}
 use Rattle.cyp_goal.specs.Raw.{set_once}
-use Rattle.cyp_grammar.specs.declared.ident.Ident.{Ident}
+use Rattle.cyp_lex.specs.declared.ident.Ident.{Ident}
 use Rattle.cyp_heap.specs.Chunks.{arg_vars}
 use Rattle.cyp_heap.specs.Formed.{arg_sort, sorts_fit, term_part_vars}
 use Rattle.cyp_heap.specs.declared.chunk.Arg.{Arg}

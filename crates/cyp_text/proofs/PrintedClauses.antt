@@ -6,7 +6,7 @@ use Rattle.std.specs.Str.{bytes_eq}
 use Rattle.std.proofs.lemmas.Bool.{and_parts, leb-true}
 use Rattle.std.proofs.lemmas.Slice.Eq.{bytes_eq-Decides}
 use Rattle.cyp_goal.specs.Raw.{lit_once}
-use Rattle.cyp_grammar.specs.declared.ident.Ident.{Ident}
+use Rattle.cyp_lex.specs.declared.ident.Ident.{Ident}
 use Rattle.cyp_heap.specs.PredsFormed.{is_clause_within}
 use Rattle.cyp_heap.specs.declared.pred.Clause.{Clause}
 use Rattle.cyp_lex.specs.declared.fault.FaultKind.TheVariants.{UnboundVariable, Unproductive, WrongSort}

@@ -1,7 +1,7 @@
 -- The variable of each name that is kept stands in what is read.
 use Rattle.std.proofs.Common.{List, Some, [], ap, arith, cond, false, filter, flat_map, inl, inr, length, not, subst, sym, true, ◌++◌, ◌∷◌, ◌≡◌, ◌⊎◌}
 use Rattle.std.specs.Prelude.{Bool}
-use Rattle.cyp_grammar.specs.declared.ident.Ident.{Ident}
+use Rattle.cyp_lex.specs.declared.ident.Ident.{Ident}
 use Rattle.cyp_heap.specs.Chunks.{arg_vars}
 use Rattle.cyp_heap.specs.Formed.{term_part_vars}
 use Rattle.cyp_term.specs.Terms.{lit_vars, lits_vars, negated, set_vars, term_eq, term_vars, var_eq, without_repeats}

@@ -1,8 +1,8 @@
 -- The tokens of the text of a specification say what its marks say.
 use Rattle.std.proofs.Common.{List, [], ap, append_assoc, append-nil, cond, false, flat_map, inl, inr, length, map, refl, subst, sym, true, ℕ, ◌++◌, ◌∙◌, ◌∷◌, ◌≡◌, ◌⊎◌, Ok, Result}
 use Rattle.std.specs.Prelude.{Bool, codes, ◌||◌, ◌&&◌}
-use Rattle.cyp_grammar.specs.Lexemes.{Lexeme, Said, Symbol, lexeme_of}
-use Rattle.cyp_grammar.specs.Spelling.{Mark}
+use Rattle.cyp_lex.specs.Lexemes.{Lexeme, Said, Symbol, lexeme_of}
+use Rattle.cyp_lex.specs.Spelling.{Mark}
 use Rattle.cyp_lex.specs.Lexing.{lexed, specification_lexicon, tokens_of}
 use Rattle.cyp_lex.specs.declared.fault.Fault.{Fault}
 use Rattle.cyp_lex.specs.declared.token.Sign.TheVariants.{Comma, LeftParen, RightBracket, RightParen}

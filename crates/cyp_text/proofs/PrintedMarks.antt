@@ -1,8 +1,8 @@
 -- The marks of printed terms, literals and chunks are tokens of specifications, where numbers are in range and variables few.
 use Rattle.std.proofs.Common.{List, None, Option, Some, [], flat_map, inl, inr, map, nat_abs, refl, subst, sym, true, ℤ, ◌++◌, ◌∷◌, ◌≡◌, ◌<◌, ◌≤◌, ◌^◌, ℕ, suc, zero}
 use Rattle.std.specs.Prelude.{negsuc, pos}
-use Rattle.cyp_grammar.specs.Lexemes.{Name, Number, Reserved, Said, Symbol}
-use Rattle.cyp_grammar.specs.Spelling.{Any, At, Mark, all_spelling, ident, list_spelling, more_spelling, separated, sign, word}
+use Rattle.cyp_lex.specs.Lexemes.{Name, Number, Reserved, Said, Symbol}
+use Rattle.cyp_lex.specs.Spelling.{Any, At, Mark, all_spelling, ident, list_spelling, more_spelling, separated, sign, word}
 use Rattle.cyp_heap.specs.Chunks.{arg_vars}
 use Rattle.cyp_heap.specs.PredsFormed.{arg_terms, lit_terms}
 use Rattle.cyp_heap.specs.declared.chunk.Arg.{Arg}

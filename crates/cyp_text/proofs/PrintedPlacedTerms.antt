@@ -1,8 +1,8 @@
 -- Terms, literals and pure parts are given the places of lexemes.
 use Rattle.std.proofs.Common.{List, [], ap, map, refl, ◌++◌, ◌∷◌, ◌≡◌, ℕ}
-use Rattle.cyp_grammar.specs.Lexemes.{Lexeme, Name, Number, Reserved, Symbol}
-use Rattle.cyp_grammar.specs.Spelling.{Any, Mark, Match, all_spelling, ident, separated, sign, word}
-use Rattle.cyp_grammar.specs.declared.ident.Ident.{Ident}
+use Rattle.cyp_lex.specs.Lexemes.{Lexeme, Name, Number, Reserved, Symbol}
+use Rattle.cyp_lex.specs.Spelling.{Any, Mark, Match, all_spelling, ident, separated, sign, word}
+use Rattle.cyp_lex.specs.declared.ident.Ident.{Ident}
 use Rattle.cyp_lex.specs.declared.token.Sign.TheVariants.{Comma, LeftBrace, LeftParen, Minus, Plus, RightBrace, RightParen, Same, Semicolon, Subset, TwoPluses}
 use Rattle.cyp_lex.specs.declared.token.Word.TheVariants.{In, Not, True}
 use Rattle.cyp_text.specs.Grammar.{braces_spelling, comparison_sign, conjunction_sign, int_spelling, item_spelling, later_item, lit_spelling, part_spelling, pure_spelling, set_spelling}

@@ -1,8 +1,8 @@
 -- Lexemes that say what the marks of a text say spell that text with other places.
 use Rattle.std.proofs.Common.{List, [], ap, map, refl, ◌++◌, ◌∷◌, ◌≡◌}
-use Rattle.cyp_grammar.specs.Lexemes.{Lexeme, Name, Number, Reserved, Symbol}
-use Rattle.cyp_grammar.specs.Spelling.{At, Mark, Match, all_spelling, ident, more_spelling, separated, sign, word}
-use Rattle.cyp_grammar.specs.declared.ident.Ident.{Ident}
+use Rattle.cyp_lex.specs.Lexemes.{Lexeme, Name, Number, Reserved, Symbol}
+use Rattle.cyp_lex.specs.Spelling.{At, Mark, Match, all_spelling, ident, more_spelling, separated, sign, word}
+use Rattle.cyp_lex.specs.declared.ident.Ident.{Ident}
 use Rattle.cyp_lex.specs.declared.token.Sign.TheVariants.{Bar, Comma, Implies, LeftBrace, LeftBracket, LeftParen, PointsTo, RightBrace, RightBracket, RightParen, TwoPluses, TwoStars}
 use Rattle.cyp_lex.specs.declared.token.Word.TheVariants.{Emp, Predicate, Void}
 use Rattle.cyp_text.specs.Grammar.{arg_spelling, body_spelling, braces_spelling, chunk_spelling, clause_spelling, heap_spelling, in_braces, int_spelling, lit_spelling, param_spelling, params_spelling, part_spelling, parts_spelling, pred_spelling, pure_spelling, sort_word, text_spelling}

@@ -1,8 +1,8 @@
 -- Lexemes that say what the marks of a tree say, and lists of trees that are given their places.
 use Rattle.std.proofs.Common.{List, [], ap, map, refl, subst, sym, ◌++◌, ◌∷◌, ◌≡◌}
-use Rattle.cyp_grammar.specs.Lexemes.{Lexeme, Said}
-use Rattle.cyp_grammar.specs.Spelling.{Any, At, Mark, Match, all_spelling, list_spelling, more_spelling, separated}
-use Rattle.cyp_grammar.proofs.Spellings.{match_join}
+use Rattle.cyp_lex.specs.Lexemes.{Lexeme, Said}
+use Rattle.cyp_lex.specs.Spelling.{Any, At, Mark, Match, all_spelling, list_spelling, more_spelling, separated}
+use Rattle.cyp_lex.proofs.Spellings.{match_join}
 use Rattle.cyp_text.specs.Printing.{mark_said}
 use Rattle.cyp_text.proofs.PrintedLines.{saids}
 

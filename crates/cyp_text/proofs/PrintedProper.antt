@@ -1,9 +1,9 @@
 -- The marks of printed bodies, predicates and texts are tokens of specifications, where those of their tree are.
 use Rattle.std.proofs.Common.{List, [], ap, arith, flat_map, inl, inr, map, refl, subst, sym, ◌++◌, ◌∙◌, ◌∷◌, ◌≡◌, ◌<◌, ◌^◌, ℕ}
 use Rattle.std.specs.Prelude.{slice_get}
-use Rattle.cyp_grammar.specs.Lexemes.{Name, Number, Reserved, Symbol}
-use Rattle.cyp_grammar.specs.Spelling.{At, Mark, all_spelling, ident, separated, sign, word}
-use Rattle.cyp_grammar.specs.declared.ident.Ident.{Ident}
+use Rattle.cyp_lex.specs.Lexemes.{Name, Number, Reserved, Symbol}
+use Rattle.cyp_lex.specs.Spelling.{At, Mark, all_spelling, ident, separated, sign, word}
+use Rattle.cyp_lex.specs.declared.ident.Ident.{Ident}
 use Rattle.cyp_heap.specs.Chunks.{arg_vars}
 use Rattle.cyp_heap.specs.Formed.{term_part_vars}
 use Rattle.cyp_heap.specs.PredsFormed.{arg_terms, lit_terms}

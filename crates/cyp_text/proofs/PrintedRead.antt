@@ -3,8 +3,8 @@ use Rattle.std.proofs.Common.{Err, List, None, Ok, Option, Result, Some, [], ap,
 use Rattle.std.specs.Prelude.{Bool, nat_le, slice_range}
 use Rattle.std.proofs.lemmas.Bool.{le-leb}
 use Rattle.std.proofs.lemmas.List.{map-append}
-use Rattle.cyp_grammar.specs.Lexemes.{Lexeme, Said, lexeme_of, said_by}
-use Rattle.cyp_grammar.specs.Spelling.{Any, At, Mark, Match, all_spelling, ident, sign, word}
+use Rattle.cyp_lex.specs.Lexemes.{Lexeme, Said, lexeme_of, said_by}
+use Rattle.cyp_lex.specs.Spelling.{Any, At, Mark, Match, all_spelling, ident, sign, word}
 use Rattle.cyp_heap.specs.declared.pred.Pred.{Pred}
 use Rattle.cyp_heap.specs.declared.pred.Preds.{Preds}
 use Rattle.cyp_lex.specs.Lexing.{tokens_of}

@@ -1,9 +1,9 @@
 -- Numbers that are read are in range, where the marks of their tree are tokens of specifications.
 use Rattle.std.proofs.Common.{List, [], arith, flat_map, inl, inr, map, nat_abs, refl, subst, sym, ℤ, ◌++◌, ◌∷◌, ◌≤◌, ℕ, suc, zero}
 use Rattle.std.specs.Prelude.{neg_ℤ, pos, ◌+ℤ◌}
-use Rattle.cyp_grammar.specs.Lexemes.{Number, Reserved, Symbol}
-use Rattle.cyp_grammar.specs.Spelling.{Any, At, Mark, ident, separated, sign, word}
-use Rattle.cyp_grammar.specs.declared.ident.Ident.{Ident}
+use Rattle.cyp_lex.specs.Lexemes.{Number, Reserved, Symbol}
+use Rattle.cyp_lex.specs.Spelling.{Any, At, Mark, ident, separated, sign, word}
+use Rattle.cyp_lex.specs.declared.ident.Ident.{Ident}
 use Rattle.cyp_heap.specs.PredsFormed.{arg_terms, chunk_terms, lit_terms}
 use Rattle.cyp_lex.specs.declared.token.Sign.TheVariants.{Comma, LeftBrace, LeftBracket, LeftParen, PointsTo, RightBrace, RightBracket, RightParen, Same as SameSign, Subset, TwoPluses}
 use Rattle.cyp_lex.specs.declared.token.Word.TheVariants.{In, Not}

@@ -3,9 +3,9 @@ use Rattle.std.proofs.Common.{List, [], ap, false, flat_map, inl, inr, map, refl
 use Rattle.std.specs.Prelude.{Bool, cond, is_some, slice_get}
 use Rattle.std.proofs.lemmas.Bool.{and_parts}
 use Rattle.cyp_goal.specs.Normal.{normal}
-use Rattle.cyp_grammar.specs.Lexemes.{Symbol}
-use Rattle.cyp_grammar.specs.Spelling.{At, Mark, all_spelling, ident, sign, word}
-use Rattle.cyp_grammar.specs.declared.ident.Ident.{Ident}
+use Rattle.cyp_lex.specs.Lexemes.{Symbol}
+use Rattle.cyp_lex.specs.Spelling.{At, Mark, all_spelling, ident, sign, word}
+use Rattle.cyp_lex.specs.declared.ident.Ident.{Ident}
 use Rattle.cyp_heap.specs.Limits.{is_goal_within}
 use Rattle.cyp_heap.specs.PredsFormed.{is_clause_within}
 use Rattle.cyp_lex.specs.declared.fault.Fault.{Fault}

@@ -2,7 +2,7 @@
 use Rattle.std.proofs.Common.{List, [], ap, append_assoc, append-nil, arith, drop, inl, inr, length, length-append, map, refl, sym, take, true, ℕ, suc, ◌+◌, ◌-◌, ◌++◌, ◌∙◌, ◌∷◌, ◌≡◌, ◌⊎◌, Err, Ok, Result}
 use Rattle.std.specs.Prelude.{slice_range}
 use Rattle.std.proofs.lemmas.List.{map-append}
-use Rattle.cyp_grammar.specs.Lexemes.{Name, Number, Reserved, Said, Symbol, Variable, lexeme_of, said_by}
+use Rattle.cyp_lex.specs.Lexemes.{Name, Number, Reserved, Said, Symbol, Variable, lexeme_of, said_by}
 use Rattle.cyp_lex.specs.Lexing.{lexed, specification_lexicon, with_token}
 use Rattle.cyp_lex.specs.declared.fault.Fault.{Fault}
 use Rattle.cyp_lex.specs.declared.token.Sign.TheVariants.{LeftBracket, LeftParen}

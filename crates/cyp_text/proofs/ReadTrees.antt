@@ -2,7 +2,7 @@
 use Rattle.std.proofs.Common.{Err, List, None, Ok, Option, Result, Some, [], false, inl, inr, length, map, refl, subst, true, ℕ, ◌∷◌, ◌≡◌}
 use Rattle.std.specs.Prelude.{Bool, IsTrue, cond, nat_le}
 use Rattle.cyp_goal.specs.Raw.{IsRegular}
-use Rattle.cyp_grammar.specs.Lexemes.{Lexeme, lexeme_of}
+use Rattle.cyp_lex.specs.Lexemes.{Lexeme, lexeme_of}
 use Rattle.cyp_heap.specs.Formed.{IsFormed}
 use Rattle.cyp_heap.specs.PredsFormed.{IsFormedPreds}
 use Rattle.cyp_lex.specs.Lexing.{tokens_of}

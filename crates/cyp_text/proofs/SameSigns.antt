@@ -1,7 +1,7 @@
 -- The code's test of two symbols is that of the definitions.
 use Rattle.std.proofs.Common.{◌≡◌, refl}
 use denote.Enum.Bare.{sameb}
-use Rattle.cyp_grammar.specs.SignTests.{same_sign}
+use Rattle.cyp_lex.specs.SignTests.{same_sign}
 use Rattle.cyp_lex.specs.contracts.token.Sign.{the_type}
 use Rattle.cyp_lex.specs.declared.token.Sign.{Sign}
 use Rattle.cyp_lex.specs.declared.token.Sign.TheVariants.{AndAnd, Assign, AtLeast, AtMost, Bar, Comma, Equal, Greater, Implies, LeftBrace, LeftBracket, LeftParen, Less, Minus, Plus, PointsTo, RightBrace, RightBracket, RightParen, Same, Semicolon, SlashAnd, Star, Subset, TwoPluses, TwoStars, Unequal}

@@ -1,18 +1,18 @@
 -- Unions are read as they are spelled.
 use Rattle.std.proofs.Common.{◌≡◌, ℕ, Bool, true, false, List, [], ◌∷◌, ◌⊎◌, inl, inr, refl}
 use Rattle.cyp_lex.specs.declared.token.Sign.TheVariants.{Comma, LeftBrace, Minus, Plus, RightBrace, TwoPluses}
-use Rattle.cyp_grammar.specs.Lexemes.{Lexeme, Name, Said, Symbol}
-use Rattle.cyp_grammar.specs.Spelling.{At, Mark, ident}
-use Rattle.cyp_grammar.specs.declared.ident.Ident.{Ident}
-use Rattle.cyp_grammar.specs.Readers.{Read, both, is_name, is_sign, one_of, sign_token}
-use Rattle.cyp_grammar.proofs.Readings.{Apart, Reads, Within, apart_none, none, nowhere, within_self}
-use Rattle.cyp_grammar.proofs.Singles.{one}
-use Rattle.cyp_grammar.proofs.Sequences.{both_reads, spell_both}
-use Rattle.cyp_grammar.proofs.Mapped.{mapped_reads}
-use Rattle.cyp_grammar.proofs.Choices.{spell_either}
-use Rattle.cyp_grammar.proofs.Lists.{listed_spelling}
-use Rattle.cyp_grammar.proofs.Tellers.{ident_reads, sign_listing_reads, sign_mark, sign_place_reads, sign_reads}
-use Rattle.cyp_grammar.proofs.Firsts.{NameBegins, first_reads, name_both, name_ident, name_listed, name_mapped, name_right}
+use Rattle.cyp_lex.specs.Lexemes.{Lexeme, Name, Said, Symbol}
+use Rattle.cyp_lex.specs.Spelling.{At, Mark, ident}
+use Rattle.cyp_lex.specs.declared.ident.Ident.{Ident}
+use Rattle.cyp_lex.specs.Readers.{Read, both, is_name, is_sign, one_of, sign_token}
+use Rattle.cyp_lex.proofs.Readings.{Apart, Reads, Within, apart_none, none, nowhere, within_self}
+use Rattle.cyp_lex.proofs.Singles.{one}
+use Rattle.cyp_lex.proofs.Sequences.{both_reads, spell_both}
+use Rattle.cyp_lex.proofs.Mapped.{mapped_reads}
+use Rattle.cyp_lex.proofs.Choices.{spell_either}
+use Rattle.cyp_lex.proofs.Lists.{listed_spelling}
+use Rattle.cyp_lex.proofs.Tellers.{ident_reads, sign_listing_reads, sign_mark, sign_place_reads, sign_reads}
+use Rattle.cyp_lex.proofs.Firsts.{NameBegins, first_reads, name_both, name_ident, name_listed, name_mapped, name_right}
 use Rattle.cyp_text.specs.declared.tree.IntTree.{IntTree}
 use Rattle.cyp_text.specs.declared.tree.PartTree.{PartTree}
 use Rattle.cyp_text.specs.declared.tree.PartTree.TheVariants.{Braces, PartName}

@@ -1,8 +1,8 @@
 -- Whether a lexeme would make a sum that is no difference, where the grammar is decided for each list of lexemes.
 use Rattle.std.proofs.Common.{List, [], ap, false, inl, inr, refl, subst, sym, true, ◌++◌, ◌∙◌, ◌∷◌, ◌≡◌, ◌⊎◌}
 use Rattle.std.specs.Prelude.{Bool, IsTrue}
-use Rattle.cyp_grammar.specs.Beginnings.{Begins}
-use Rattle.cyp_grammar.specs.Lexemes.{Lexeme, Number, Said, Symbol}
+use Rattle.cyp_lex.specs.Beginnings.{Begins}
+use Rattle.cyp_lex.specs.Lexemes.{Lexeme, Number, Said, Symbol}
 use Rattle.cyp_lex.specs.declared.token.Sign.TheVariants as signs
 use Rattle.cyp_text.specs.Grammar.{text_spelling}
 use Rattle.cyp_text.specs.GrammarFaults.{AllowsName, EndsInFirstNumber, SpoilsSum, backwards, spoils}

@@ -1,14 +1,14 @@
 -- What the place where the reader stops tells of the fault.
 use Rattle.std.proofs.Common.{Err, List, Ok, Result, [], ap, append-nil, append_assoc, arith, inl, inr, length, length-append, refl, subst, suc, sym, ℕ, ◌++◌, ◌<◌, ◌≤◌, ◌∙◌, ◌∷◌, ◌≡◌}
-use Rattle.cyp_grammar.specs.Beginnings.{Begins, Refused}
-use Rattle.cyp_grammar.specs.Lexemes.{Lexeme}
-use Rattle.cyp_grammar.specs.Readers.{IsNamed, Read, Stop, end_by, is_word, one_of, whole_of, ◌>>=◌}
+use Rattle.cyp_lex.specs.Beginnings.{Begins, Refused}
+use Rattle.cyp_lex.specs.Lexemes.{Lexeme}
+use Rattle.cyp_lex.specs.Readers.{IsNamed, Read, Stop, end_by, is_word, one_of, whole_of, ◌>>=◌}
 use Rattle.cyp_lex.specs.declared.token.Word.TheVariants.{Predicate, Void}
-use Rattle.cyp_grammar.specs.Spelling.{IsEnd, Match}
-use Rattle.cyp_grammar.specs.declared.want.Want.{Want}
-use Rattle.cyp_grammar.specs.declared.want.Want.TheVariants.{AName, NoName}
-use Rattle.cyp_grammar.proofs.Readings.{Sound, Took, none}
-use Rattle.cyp_grammar.proofs.Stops.{IsReading, IsStop}
+use Rattle.cyp_lex.specs.Spelling.{IsEnd, Match}
+use Rattle.cyp_lex.specs.declared.want.Want.{Want}
+use Rattle.cyp_lex.specs.declared.want.Want.TheVariants.{AName, NoName}
+use Rattle.cyp_lex.proofs.Readings.{Sound, Took, none}
+use Rattle.cyp_lex.proofs.Stops.{IsReading, IsStop}
 use Rattle.cyp_text.specs.Grammar.{text_spelling}
 use Rattle.cyp_text.specs.GrammarFaults.{AllowsName, GrammarFault, IsKind, end_kind, name_at}
 use Rattle.cyp_lex.specs.declared.fault.FaultKind.{FaultKind}

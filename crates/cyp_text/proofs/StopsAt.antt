@@ -1,10 +1,10 @@
 -- What the stop of the reader tells of a text, for worked examples.
 use Rattle.std.proofs.Common.{Err, List, Result, [], ap, append-nil, arith, length, length-append, refl, subst, sym, ℕ, ◌++◌, ◌∙◌, ◌∷◌, ◌≡◌}
-use Rattle.cyp_grammar.specs.Beginnings.{Begins, IsRefusedAt, IsUnfinished, Refused}
-use Rattle.cyp_grammar.specs.Lexemes.{Lexeme, Number}
-use Rattle.cyp_grammar.specs.Readers.{Stop, whole_of}
-use Rattle.cyp_grammar.specs.declared.want.Want.TheVariants.{AName, NoName}
-use Rattle.cyp_grammar.proofs.Stops.{IsReading, IsStop}
+use Rattle.cyp_lex.specs.Beginnings.{Begins, IsRefusedAt, IsUnfinished, Refused}
+use Rattle.cyp_lex.specs.Lexemes.{Lexeme, Number}
+use Rattle.cyp_lex.specs.Readers.{Stop, whole_of}
+use Rattle.cyp_lex.specs.declared.want.Want.TheVariants.{AName, NoName}
+use Rattle.cyp_lex.proofs.Stops.{IsReading, IsStop}
 use Rattle.cyp_text.specs.Grammar.{text_spelling}
 use Rattle.cyp_text.specs.GrammarFaults.{AllowsName, EndsInFirstNumber, name_at}
 use Rattle.cyp_text.specs.TextReaders.{text_at}

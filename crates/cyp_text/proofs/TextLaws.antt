@@ -3,17 +3,17 @@ use Rattle.std.proofs.Common.{◌≡◌, ℕ, Bool, List, Some, refl, ap}
 use Rattle.cyp_lex.specs.declared.token.Sign.TheVariants.{Bar, Comma, Implies, LeftBrace, LeftParen, RightBrace, RightParen}
 use Rattle.cyp_lex.specs.declared.token.Word.TheVariants.{Int, Loc, Predicate, Set}
 use Rattle.cyp_lex.specs.declared.token.Word.TheVariants.{Void}
-use Rattle.cyp_grammar.specs.Lexemes.{Reserved, Said, Symbol}
-use Rattle.cyp_grammar.specs.Spelling.{At, Mark, ident}
-use Rattle.cyp_grammar.specs.Readers.{sign_token, word_token, is_sign, is_word, one_of, placed, single}
-use Rattle.cyp_grammar.specs.declared.want.Want.TheVariants.{NoName}
-use Rattle.cyp_grammar.proofs.Readings.{Apart, Reads, apart_none, none, nowhere, within_self}
-use Rattle.cyp_grammar.proofs.Singles.{one}
-use Rattle.cyp_grammar.proofs.Sequences.{both_reads, spell_both}
-use Rattle.cyp_grammar.proofs.Mapped.{mapped_reads}
-use Rattle.cyp_grammar.proofs.Tellers.{Tells, ident_reads, placed_reads, sign_mark, sign_place_reads, sign_reads, word_mark, word_reads}
-use Rattle.cyp_grammar.proofs.Enclosures.{enclosed_reads, enclosed_spelling}
-use Rattle.cyp_grammar.proofs.Repeats.{repeated_spelling, repeating_reads}
+use Rattle.cyp_lex.specs.Lexemes.{Reserved, Said, Symbol}
+use Rattle.cyp_lex.specs.Spelling.{At, Mark, ident}
+use Rattle.cyp_lex.specs.Readers.{sign_token, word_token, is_sign, is_word, one_of, placed, single}
+use Rattle.cyp_lex.specs.declared.want.Want.TheVariants.{NoName}
+use Rattle.cyp_lex.proofs.Readings.{Apart, Reads, apart_none, none, nowhere, within_self}
+use Rattle.cyp_lex.proofs.Singles.{one}
+use Rattle.cyp_lex.proofs.Sequences.{both_reads, spell_both}
+use Rattle.cyp_lex.proofs.Mapped.{mapped_reads}
+use Rattle.cyp_lex.proofs.Tellers.{Tells, ident_reads, placed_reads, sign_mark, sign_place_reads, sign_reads, word_mark, word_reads}
+use Rattle.cyp_lex.proofs.Enclosures.{enclosed_reads, enclosed_spelling}
+use Rattle.cyp_lex.proofs.Repeats.{repeated_spelling, repeating_reads}
 use Rattle.cyp_text.specs.declared.tree.ClauseTree.{ClauseTree}
 use Rattle.cyp_text.specs.declared.tree.ParamTree.{ParamTree}
 use Rattle.cyp_text.specs.declared.tree.PredTree.{PredTree}

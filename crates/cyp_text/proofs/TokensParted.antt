@@ -2,7 +2,7 @@
 use Rattle.std.proofs.Common.{List, [], ap, arith, drop, get_or, length, length-drop, map, refl, suc, sym, take, ℕ, ◌++◌, ◌-◌, ◌<◌, ◌≤◌, ◌∙◌, ◌∷◌, ◌≡◌}
 use Rattle.std.proofs.lemmas.List.{length-map, map-append, take-append-drop, take_all}
 use Rattle.std.proofs.Math.Seq.{drop-cons, take-suc}
-use Rattle.cyp_grammar.specs.Lexemes.{Lexeme, Said, lexeme_of}
+use Rattle.cyp_lex.specs.Lexemes.{Lexeme, Said, lexeme_of}
 use Rattle.cyp_lex.specs.declared.token.Token.{Token}
 use Rattle.cyp_lex.specs.declared.token.TokenKind.TheVariants as kinds
 use Rattle.cyp_text.specs.GrammarFaults.{backwards}

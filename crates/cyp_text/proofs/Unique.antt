@@ -1,7 +1,7 @@
 -- A text has at most one reading, where its lexemes spell at most one tree.
 use Rattle.std.proofs.Common.{Err, List, Ok, Result, ap, false, inl, inr, length, map, sym, true, ℕ, ◌∙◌, ◌≡◌}
 use Rattle.std.specs.Prelude.{Bool, nat_le}
-use Rattle.cyp_grammar.specs.Lexemes.{Lexeme, lexeme_of}
+use Rattle.cyp_lex.specs.Lexemes.{Lexeme, lexeme_of}
 use Rattle.cyp_lex.specs.Lexing.{tokens_of}
 use Rattle.cyp_lex.specs.declared.fault.Fault.{Fault}
 use Rattle.cyp_lex.specs.declared.token.Token.{Token}

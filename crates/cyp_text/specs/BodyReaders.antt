@@ -3,9 +3,9 @@ use Rattle.std.specs.Prelude.{Bool, List, None, Option, Some, ◌⊎◌}
 use Rattle.std.proofs.Common.{inl, inr}
 use Rattle.cyp_lex.specs.declared.token.Sign.TheVariants.{AndAnd, Semicolon, SlashAnd}
 use Rattle.cyp_lex.specs.declared.token.Word.TheVariants.{True}
-use Rattle.cyp_grammar.specs.Lexemes.{Lexeme, Said, Symbol}
-use Rattle.cyp_grammar.specs.Readers.{Read, both, first_tells, is_word, mapped, one_of, plainly, second_tells, sign_token, single, telling, word_token}
-use Rattle.cyp_grammar.specs.declared.want.Want.TheVariants.{AName, NoName}
+use Rattle.cyp_lex.specs.Lexemes.{Lexeme, Said, Symbol}
+use Rattle.cyp_lex.specs.Readers.{Read, both, first_tells, is_word, mapped, one_of, plainly, second_tells, sign_token, single, telling, word_token}
+use Rattle.cyp_lex.specs.declared.want.Want.TheVariants.{AName, NoName}
 use Rattle.cyp_text.specs.LitTrees.{LitTree}
 use Rattle.cyp_text.specs.declared.tree.BodyTree.{BodyTree}
 use Rattle.cyp_text.specs.declared.tree.ChunkTree.{ChunkTree}

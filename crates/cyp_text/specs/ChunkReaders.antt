@@ -3,10 +3,10 @@ use Rattle.std.specs.Prelude.{false, true, Bool, List, None, Ok, Option, Some, [
 use Rattle.std.proofs.Common.{inl, inr}
 use Rattle.cyp_lex.specs.declared.token.Sign.TheVariants.{Comma, LeftBrace, LeftBracket, LeftParen, Minus, PointsTo, RightBracket, RightParen, TwoPluses, TwoStars}
 use Rattle.cyp_lex.specs.declared.token.Word.TheVariants.{Emp}
-use Rattle.cyp_grammar.specs.Lexemes.{Lexeme, Said}
-use Rattle.cyp_grammar.specs.declared.ident.Ident.{Ident}
-use Rattle.cyp_grammar.specs.Readers.{Read, both, enclosed, first_tells, heads, ident_token, is_name, is_number, is_sign, is_word, listing, mapped, number_token, one_of, option_after, placed_number, sign_token, word_token, ◌>>=◌}
-use Rattle.cyp_grammar.specs.declared.want.Want.TheVariants.{AName, NoName}
+use Rattle.cyp_lex.specs.Lexemes.{Lexeme, Said}
+use Rattle.cyp_lex.specs.declared.ident.Ident.{Ident}
+use Rattle.cyp_lex.specs.Readers.{Read, both, enclosed, first_tells, heads, ident_token, is_name, is_number, is_sign, is_word, listing, mapped, number_token, one_of, option_after, placed_number, sign_token, word_token, ◌>>=◌}
+use Rattle.cyp_lex.specs.declared.want.Want.TheVariants.{AName, NoName}
 use Rattle.cyp_text.specs.declared.tree.ArgTree.{ArgTree}
 use Rattle.cyp_text.specs.declared.tree.ArgTree.TheVariants.{BracesArg, TermArg, UnionArg}
 use Rattle.cyp_text.specs.declared.tree.ChunkTree.{ChunkTree}

@@ -22,8 +22,8 @@ use Rattle.cyp_lex.specs.declared.token.Sign.{Sign}
 use Rattle.cyp_lex.specs.declared.token.Sign.TheVariants.{AndAnd, AtLeast, AtMost, Bar, Comma, Equal, Greater, Implies, LeftBrace, LeftBracket, LeftParen, Less, Minus, Plus, PointsTo, RightBrace, RightBracket, RightParen, Same, Semicolon, SlashAnd, Subset, TwoPluses, TwoStars, Unequal}
 use Rattle.cyp_lex.specs.declared.token.Word.{Word}
 use Rattle.cyp_lex.specs.declared.token.Word.TheVariants.{Emp, In, Int, Loc, Not, Predicate, Set, True, Void}
-use Rattle.cyp_grammar.specs.Lexemes.{Number, Reserved, Symbol}
-use Rattle.cyp_grammar.specs.Spelling.{Any, At, Mark, all_spelling, ident, list_spelling, separated, sign, word}
+use Rattle.cyp_lex.specs.Lexemes.{Number, Reserved, Symbol}
+use Rattle.cyp_lex.specs.Spelling.{Any, At, Mark, all_spelling, ident, list_spelling, separated, sign, word}
 use Rattle.cyp_text.specs.LitTrees.{Comparing, Inside, LitTree, Negation, SameSets, SubSets}
 use Rattle.cyp_text.specs.declared.tree.ArgTree.{ArgTree}
 use Rattle.cyp_text.specs.declared.tree.ArgTree.TheVariants.{BracesArg, TermArg, UnionArg}

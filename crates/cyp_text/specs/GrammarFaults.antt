@@ -6,8 +6,8 @@ use Rattle.cyp_lex.specs.declared.fault.FaultKind.{FaultKind}
 use Rattle.cyp_lex.specs.declared.fault.FaultKind.TheVariants.{Expected, MissingProcedure, NotDifference, ReservedName}
 use Rattle.cyp_lex.specs.declared.token.Sign.TheVariants.{Minus, Plus}
 use Rattle.cyp_lex.specs.declared.token.Word.TheVariants.{Void}
-use Rattle.cyp_grammar.specs.Beginnings.{Begins, IsRefusedAt, IsUnfinished}
-use Rattle.cyp_grammar.specs.Lexemes.{Lexeme, Name, Number, Reserved, Said, Symbol}
+use Rattle.cyp_lex.specs.Beginnings.{Begins, IsRefusedAt, IsUnfinished}
+use Rattle.cyp_lex.specs.Lexemes.{Lexeme, Name, Number, Reserved, Said, Symbol}
 use Rattle.cyp_text.specs.Grammar.{text_spelling}
 
 -- a name at a place

@@ -1,9 +1,9 @@
 -- How lists of parts are read one part after another.
 use Rattle.std.specs.Prelude.{[], Bool, Err, List, Ok, Result, false, length, suc, true, zero, ℕ, ◌++◌, ◌<◌, ◌≤◌, ◌∷◌, ◌≡◌}
-use Rattle.cyp_grammar.specs.Lexemes.{Lexeme, Said}
-use Rattle.cyp_grammar.specs.Readers.{Read, heads, is_sign, listing, mapped, sign_token, stop, ◌>>=◌}
-use Rattle.cyp_grammar.specs.declared.want.Want.{Want}
-use Rattle.cyp_grammar.specs.declared.want.Want.TheVariants.{NoName}
+use Rattle.cyp_lex.specs.Lexemes.{Lexeme, Said}
+use Rattle.cyp_lex.specs.Readers.{Read, heads, is_sign, listing, mapped, sign_token, stop, ◌>>=◌}
+use Rattle.cyp_lex.specs.declared.want.Want.{Want}
+use Rattle.cyp_lex.specs.declared.want.Want.TheVariants.{NoName}
 use Rattle.cyp_lex.specs.declared.token.Sign.{Sign}
 use Rattle.cyp_term.specs.declared.fail.Fail.{Fail}
 use Rattle.cyp_text.specs.Parsing.{Gives}

@@ -3,9 +3,9 @@ use Rattle.std.specs.Prelude.{List, Ok, Bool, None, Option, Some, false, length,
 use Rattle.std.proofs.Common.{inl, inr}
 use Rattle.cyp_lex.specs.declared.token.Sign.TheVariants.{AtLeast, AtMost, Equal, Greater, LeftParen, Less, RightParen, Same, Subset, TwoPluses, Unequal}
 use Rattle.cyp_lex.specs.declared.token.Word.TheVariants.{In, Not}
-use Rattle.cyp_grammar.specs.Lexemes.{Lexeme, Said, Symbol}
-use Rattle.cyp_grammar.specs.Readers.{Read, both, first_tells, is_word, mapped, one_of, plainly, second_tells, sign_token, single, telling, word_place, word_token, ◌>>=◌}
-use Rattle.cyp_grammar.specs.declared.want.Want.TheVariants.{AName, NoName}
+use Rattle.cyp_lex.specs.Lexemes.{Lexeme, Said, Symbol}
+use Rattle.cyp_lex.specs.Readers.{Read, both, first_tells, is_word, mapped, one_of, plainly, second_tells, sign_token, single, telling, word_place, word_token, ◌>>=◌}
+use Rattle.cyp_lex.specs.declared.want.Want.TheVariants.{AName, NoName}
 use Rattle.cyp_text.specs.declared.lit_tree.BaseTree.{BaseTree}
 use Rattle.cyp_text.specs.declared.lit_tree.BaseTree.TheVariants as bases
 use Rattle.cyp_text.specs.LitTrees.{negated, LitTree}

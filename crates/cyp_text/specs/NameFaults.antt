@@ -8,7 +8,7 @@ use Rattle.cyp_lex.specs.declared.fault.FaultKind.TheVariants.{DuplicateName, Un
 use Rattle.cyp_term.specs.Terms.{sort_eq}
 use Rattle.cyp_term.specs.declared.term.Sort.{Sort}
 use Rattle.cyp_term.specs.declared.term.Sort.TheVariants.{Int, Set}
-use Rattle.cyp_grammar.specs.declared.ident.Ident.{Ident}
+use Rattle.cyp_lex.specs.declared.ident.Ident.{Ident}
 use Rattle.cyp_text.specs.Bodies.{body_uses}
 use Rattle.cyp_text.specs.LitTrees.{Comparing, Inside, LitTree, Negation, SameSets, SubSets}
 use Rattle.cyp_text.specs.declared.tree.ArgTree.{ArgTree}

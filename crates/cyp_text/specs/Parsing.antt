@@ -1,8 +1,8 @@
 -- What the code of the reader does with the lexemes that are left.
 use Rattle.std.specs.Prelude.{[], Err, List, None, Ok, Option, Result, Some, ℕ, ◌∷◌, ◌≡◌, ◌≤◌}
-use Rattle.cyp_grammar.specs.Lexemes.{Lexeme, Said, said_by}
-use Rattle.cyp_grammar.specs.Readers.{Read, stop}
-use Rattle.cyp_grammar.specs.declared.want.Want.{Want}
+use Rattle.cyp_lex.specs.Lexemes.{Lexeme, Said, said_by}
+use Rattle.cyp_lex.specs.Readers.{Read, stop}
+use Rattle.cyp_lex.specs.declared.want.Want.{Want}
 use Rattle.cyp_lex.specs.declared.token.Token.{Token}
 use Rattle.cyp_lex.specs.declared.token.TokenKind.{TokenKind}
 use Rattle.cyp_term.specs.declared.fail.Fail.{Fail}

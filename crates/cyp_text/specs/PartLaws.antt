@@ -1,11 +1,11 @@
 -- Each part of a list stops at once where none of its first lexemes stands.
 use Rattle.std.specs.Prelude.{[], Bool, List, None, Option, Some, false, refl, true, ◌∷◌, ◌≡◌}
 use Rattle.std.proofs.Common.{ap, subst}
-use Rattle.cyp_grammar.specs.Readers.{both, closed, either_by, heads, ident_token, is_name, is_number, is_sign, is_there, mapped, placed_by, stop, token_or}
-use Rattle.cyp_grammar.specs.Lexemes.{Lexeme}
+use Rattle.cyp_lex.specs.Readers.{both, closed, either_by, heads, ident_token, is_name, is_number, is_sign, is_there, mapped, placed_by, stop, token_or}
+use Rattle.cyp_lex.specs.Lexemes.{Lexeme}
 use Rattle.cyp_text.specs.TextReaders.{is_sort, param_at, param_tree, sort_of}
 use Rattle.cyp_text.specs.declared.tree.SortTree.{SortTree}
-use Rattle.cyp_grammar.specs.declared.want.Want.TheVariants.{AName, NoName}
+use Rattle.cyp_lex.specs.declared.want.Want.TheVariants.{AName, NoName}
 use Rattle.cyp_lex.specs.declared.token.Sign.TheVariants.{LeftBrace}
 use Rattle.cyp_text.specs.ChunkReaders.{arg_at, arg_tree, begins_arg, begins_chunk, braces_union, chunk_at, chunk_tail, chunk_tree, shape_chunk, term_or_name}
 use Rattle.cyp_text.specs.ListReaders.{Refuses}

@@ -1,6 +1,6 @@
 -- The tree by which a specification is printed. Its places say nothing.
 use Rattle.std.specs.Prelude.{[], List, None, Option, Some, codes, decimal, filter, length, map, negsuc, pos, slice_get, suc, zero, ℕ, ℤ, ◌++◌, ◌∷◌}
-use Rattle.cyp_grammar.specs.declared.ident.Ident.{Ident}
+use Rattle.cyp_lex.specs.declared.ident.Ident.{Ident}
 use Rattle.cyp_heap.specs.declared.chunk.Arg.{Arg}
 use Rattle.cyp_heap.specs.declared.chunk.Arg.TheVariants.{Int as IntArg, Set as SetArg}
 use Rattle.cyp_heap.specs.declared.chunk.Chunk.{Chunk}

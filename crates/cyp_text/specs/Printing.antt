@@ -1,7 +1,7 @@
 -- The text of a specification.
 use Rattle.std.specs.Prelude.{[], Bool, List, cond, codes, decimal, false, flat_map, map, true, ℕ, ◌&&◌, ◌++◌, ◌||◌, ◌∷◌}
-use Rattle.cyp_grammar.specs.Lexemes.{Name, Number, Reserved, Said, Symbol, Variable}
-use Rattle.cyp_grammar.specs.Spelling.{Any, At, Mark, all_spelling, ident, sign, word}
+use Rattle.cyp_lex.specs.Lexemes.{Name, Number, Reserved, Said, Symbol, Variable}
+use Rattle.cyp_lex.specs.Spelling.{Any, At, Mark, all_spelling, ident, sign, word}
 use Rattle.cyp_heap.specs.declared.pred.Pred.{Pred}
 use Rattle.cyp_heap.specs.declared.pred.Preds.{Preds}
 use Rattle.cyp_lex.specs.Spelled.{sign_text, word_text}

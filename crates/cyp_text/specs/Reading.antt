@@ -1,7 +1,7 @@
 -- The reading of a text: its specification or its one fault.
 use Rattle.std.specs.Prelude.{Bool, Err, List, None, Ok, Option, Result, Some, [], cond, false, length, map, nat_le, nat_lt, true, ℕ, ◌&&◌, ◌==◌, ◌||◌, ◌∷◌, ◌≡◌, ◌⊎◌}
-use Rattle.cyp_grammar.specs.Lexemes.{Lexeme, lexeme_of}
-use Rattle.cyp_grammar.specs.Spelling.{Match}
+use Rattle.cyp_lex.specs.Lexemes.{Lexeme, lexeme_of}
+use Rattle.cyp_lex.specs.Spelling.{Match}
 use Rattle.cyp_lex.specs.FaultNumber.{fault_number}
 use Rattle.cyp_lex.specs.Lexing.{tokens_of}
 use Rattle.cyp_lex.specs.declared.fault.Fault.{Fault}

@@ -5,8 +5,8 @@ use Rattle.cyp_heap.specs.Formed.{IsFormed}
 use Rattle.cyp_heap.specs.PredsFormed.{IsFormedPreds}
 use Rattle.cyp_lex.specs.declared.fault.Fault.{Fault}
 use Rattle.cyp_text.specs.LimitFaults.{is_root_within, root_of}
-use Rattle.cyp_grammar.specs.Lexemes.{Lexeme}
-use Rattle.cyp_grammar.specs.Spelling.{Match}
+use Rattle.cyp_lex.specs.Lexemes.{Lexeme}
+use Rattle.cyp_lex.specs.Spelling.{Match}
 use Rattle.cyp_text.specs.Grammar.{text_spelling}
 use Rattle.cyp_text.specs.Printing.{specification_text}
 use Rattle.cyp_text.specs.Reading.{IsReading}

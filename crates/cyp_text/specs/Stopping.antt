@@ -1,10 +1,10 @@
 -- What the code does with all of a text's tokens, and where the reader stops.
 use Rattle.std.specs.Prelude.{Bool, Err, List, Ok, Result, false, length, map, true, ℕ, ◌≡◌}
-use Rattle.cyp_grammar.specs.Lexemes.{Lexeme, lexeme_of}
-use Rattle.cyp_grammar.specs.Readers.{whole_of}
-use Rattle.cyp_grammar.specs.Spelling.{Match}
-use Rattle.cyp_grammar.specs.declared.want.Want.{Want}
-use Rattle.cyp_grammar.specs.declared.want.Want.TheVariants.{AName, NoName}
+use Rattle.cyp_lex.specs.Lexemes.{Lexeme, lexeme_of}
+use Rattle.cyp_lex.specs.Readers.{whole_of}
+use Rattle.cyp_lex.specs.Spelling.{Match}
+use Rattle.cyp_lex.specs.declared.want.Want.{Want}
+use Rattle.cyp_lex.specs.declared.want.Want.TheVariants.{AName, NoName}
 use Rattle.cyp_lex.specs.declared.fault.Fault.{Fault}
 use Rattle.cyp_lex.specs.declared.token.Token.{Token}
 use Rattle.cyp_term.specs.declared.fail.Fail.{Fail}

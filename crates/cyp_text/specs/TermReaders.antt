@@ -2,10 +2,10 @@
 use Rattle.std.specs.Prelude.{Bool, List, None, Option, Some, false, true, ◌⊎◌, ℕ}
 use Rattle.std.proofs.Common.{inl, inr}
 use Rattle.cyp_lex.specs.declared.token.Sign.TheVariants.{Comma, LeftBrace, Minus, Plus, RightBrace, TwoPluses}
-use Rattle.cyp_grammar.specs.Lexemes.{Lexeme, Said, Symbol}
-use Rattle.cyp_grammar.specs.declared.ident.Ident.{Ident}
-use Rattle.cyp_grammar.specs.Readers.{Read, Enclosed, both, closed, enclosed, enclosed_list, first_tells, ident_token, is_name, is_number, is_sign, listing, mapped, number_token, one_of, option_after, placed_number, plainly, sign_place, sign_token, single, telling}
-use Rattle.cyp_grammar.specs.declared.want.Want.TheVariants.{AName, NoName}
+use Rattle.cyp_lex.specs.Lexemes.{Lexeme, Said, Symbol}
+use Rattle.cyp_lex.specs.declared.ident.Ident.{Ident}
+use Rattle.cyp_lex.specs.Readers.{Read, Enclosed, both, closed, enclosed, enclosed_list, first_tells, ident_token, is_name, is_number, is_sign, listing, mapped, number_token, one_of, option_after, placed_number, plainly, sign_place, sign_token, single, telling}
+use Rattle.cyp_lex.specs.declared.want.Want.TheVariants.{AName, NoName}
 use Rattle.cyp_text.specs.declared.tree.IntTree.{IntTree}
 use Rattle.cyp_text.specs.declared.tree.IntTree.TheVariants.{MinusNum, NameMinus, NamePlus, Named, Num, NumPlus}
 use Rattle.cyp_text.specs.declared.tree.PartTree.{PartTree}

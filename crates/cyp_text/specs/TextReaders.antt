@@ -2,10 +2,10 @@
 use Rattle.std.specs.Prelude.{Bool, List, None, Option, Some, ℕ}
 use Rattle.cyp_lex.specs.declared.token.Sign.TheVariants.{Bar, Implies, LeftBrace, LeftParen, RightBrace, RightParen}
 use Rattle.cyp_lex.specs.declared.token.Word.TheVariants.{Int, Loc, Predicate, Set, Void}
-use Rattle.cyp_grammar.specs.Lexemes.{Lexeme, Reserved, Said}
-use Rattle.cyp_grammar.specs.declared.ident.Ident.{Ident}
-use Rattle.cyp_grammar.specs.Readers.{Read, both, enclosed, ident_token, is_sign, is_word, mapped, placed, sign_place, sign_token, single, telling, word_token}
-use Rattle.cyp_grammar.specs.declared.want.Want.TheVariants.{NoName}
+use Rattle.cyp_lex.specs.Lexemes.{Lexeme, Reserved, Said}
+use Rattle.cyp_lex.specs.declared.ident.Ident.{Ident}
+use Rattle.cyp_lex.specs.Readers.{Read, both, enclosed, ident_token, is_sign, is_word, mapped, placed, sign_place, sign_token, single, telling, word_token}
+use Rattle.cyp_lex.specs.declared.want.Want.TheVariants.{NoName}
 use Rattle.cyp_text.specs.LitTrees.{LitTree}
 use Rattle.cyp_text.specs.declared.tree.BodyTree.{BodyTree}
 use Rattle.cyp_text.specs.declared.tree.ClauseTree.{ClauseTree}

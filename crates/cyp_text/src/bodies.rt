@@ -1,5 +1,5 @@
 ghost use Rattle.std.specs.Prelude.{◌≡◌};
-ghost use Rattle.cyp_grammar.specs.Readers.{heads, left_by_second};
+ghost use Rattle.cyp_lex.specs.Readers.{heads, left_by_second};
 ghost use Rattle.cyp_text.specs.BodyReaders.{begins_item, body_at, conjunction_at, is_conjunction, item_at, item_list, items_body, later_item_at};
 ghost use Rattle.cyp_text.specs.ChunkReaders.{is_chunk_tail};
 ghost use Rattle.cyp_text.specs.Parsing.{Gives};
@@ -8,8 +8,7 @@ ghost use Rattle.cyp_text.specs.TextReaders.{braced_at};
 use crate::lists::Item;
 use crate::parser::Parser;
 use crate::tree::{BodyTree, Conjunction, ItemTree, PureTree};
-use cyp_grammar::Want;
-use cyp_lex::{Sign, TokenKind, Word};
+use cyp_lex::{Sign, TokenKind, Want, Word};
 use cyp_term::{Fail, Shared};
 use std::alloc::Global;
 

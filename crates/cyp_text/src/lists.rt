@@ -1,13 +1,12 @@
-ghost use Rattle.cyp_grammar.specs.declared.want.Want.{Want};
+ghost use Rattle.cyp_lex.specs.declared.want.Want.{Want};
 ghost use Rattle.std.specs.Prelude.{List, [], ◌≡◌, Bool, IfOk};
-ghost use Rattle.cyp_grammar.specs.Lexemes.{Lexeme, Said};
-ghost use Rattle.cyp_grammar.specs.Readers.{Read, enclosed, heads, listing, is_sign, sign_token};
+ghost use Rattle.cyp_lex.specs.Lexemes.{Lexeme, Said};
+ghost use Rattle.cyp_lex.specs.Readers.{Read, enclosed, heads, listing, is_sign, sign_token};
 ghost use Rattle.cyp_text.specs.ListReaders.{GivesMore, IsShorter, Refuses, behind, many, parts_list};
 ghost use Rattle.cyp_text.specs.Parsing.{Gives};
 
 use crate::parser::Parser;
-use cyp_grammar::Want;
-use cyp_lex::Sign;
+use cyp_lex::{Sign, Want};
 use cyp_term::{Fail, List, NoMemory};
 use std::alloc::Global;
 

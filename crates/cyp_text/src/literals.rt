@@ -1,6 +1,6 @@
 ghost use Rattle.std.specs.Prelude.{◌≡◌};
-ghost use Rattle.cyp_grammar.specs.Readers.{left_by_second};
-ghost use Rattle.cyp_grammar.specs.Readers.{is_word};
+ghost use Rattle.cyp_lex.specs.Readers.{left_by_second};
+ghost use Rattle.cyp_lex.specs.Readers.{is_word};
 ghost use Rattle.cyp_lex.specs.declared.token.Word.TheVariants.{Not};
 ghost use Rattle.cyp_text.specs.ListReaders.{many};
 ghost use Rattle.cyp_text.specs.LitReaders.{lit_at, comparison, int_base, is_set_tail, closes, opening, plain_base, set_base_at, set_sign};
@@ -10,8 +10,7 @@ ghost use Rattle.cyp_text.specs.TermReaders.{begins_int};
 use crate::lit_tree::{BaseTree, LitTree};
 use crate::parser::Parser;
 use crate::tree::Comparison;
-use cyp_grammar::Want;
-use cyp_lex::{Sign, TokenKind, Word};
+use cyp_lex::{Sign, TokenKind, Want, Word};
 use cyp_term::{Fail, List};
 use std::alloc::Global;
 

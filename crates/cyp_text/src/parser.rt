@@ -1,11 +1,10 @@
 ghost use Rattle.std.specs.Prelude.{◌≡◌, ◌≢◌, [], length, map};
 ghost use Rattle.std.specs.List.{All};
-ghost use Rattle.cyp_grammar.specs.Lexemes.{lexeme_of, said_by};
-ghost use Rattle.cyp_grammar.specs.Readers.{heads, ident_token, is_name, is_number, is_sign, is_word, number_token, placed_number, sign_place, sign_token, word_place, word_token};
+ghost use Rattle.cyp_lex.specs.Lexemes.{lexeme_of, said_by};
+ghost use Rattle.cyp_lex.specs.Readers.{heads, ident_token, is_name, is_number, is_sign, is_word, number_token, placed_number, sign_place, sign_token, word_place, word_token};
 ghost use Rattle.cyp_text.specs.Parsing.{Gives, IsOfKind, IsPassed, LiesWithin, tail};
 
-use cyp_grammar::{Ident, Name, Want};
-use cyp_lex::{Sign, Token, TokenKind, Word};
+use cyp_lex::{Ident, Name, Sign, Token, TokenKind, Want, Word};
 use cyp_term::Fail;
 use std::alloc::Global;
 use std::marker::Model;
@@ -20,7 +19,7 @@ pub(crate) struct Parser<'a> {
 impl<'a> Model for Parser<'a> {
     ghost use Rattle.std.specs.Prelude.{List, length, map};
     ghost use Rattle.std.specs.List.{All};
-    ghost use Rattle.cyp_grammar.specs.Lexemes.{Lexeme, lexeme_of};
+    ghost use Rattle.cyp_lex.specs.Lexemes.{Lexeme, lexeme_of};
     ghost use Rattle.cyp_text.specs.Parsing.{LiesWithin};
 
     ghost Value = { List Lexeme };

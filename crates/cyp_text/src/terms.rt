@@ -1,14 +1,13 @@
 ghost use Rattle.std.specs.Prelude.{◌≡◌};
-ghost use Rattle.cyp_grammar.specs.Readers.{heads};
+ghost use Rattle.cyp_lex.specs.Readers.{heads};
 ghost use Rattle.cyp_text.specs.Parsing.{Gives};
-ghost use Rattle.cyp_grammar.specs.declared.want.Want.TheVariants.{AName};
+ghost use Rattle.cyp_lex.specs.declared.want.Want.TheVariants.{AName};
 ghost use Rattle.cyp_text.specs.TermReaders.{any_int, begins_int, begins_set, braced_terms, int_at, is_sum, minus_int, name_int, number_int, part_at, set_at, sum_sign};
 
 use crate::lists::Part;
 use crate::parser::Parser;
 use crate::tree::{IntTree, PartTree, SetTree};
-use cyp_grammar::Want;
-use cyp_lex::{Sign, TokenKind};
+use cyp_lex::{Sign, TokenKind, Want};
 use cyp_term::{Fail, List};
 use std::alloc::Global;
 

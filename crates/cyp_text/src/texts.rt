@@ -1,6 +1,6 @@
 ghost use Rattle.std.specs.Prelude.{◌≡◌};
-ghost use Rattle.cyp_grammar.specs.Readers.{is_sign, is_word};
-ghost use Rattle.cyp_grammar.specs.declared.want.Want.TheVariants.{NoName};
+ghost use Rattle.cyp_lex.specs.Readers.{is_sign, is_word};
+ghost use Rattle.cyp_lex.specs.declared.want.Want.TheVariants.{NoName};
 ghost use Rattle.cyp_lex.specs.declared.token.Sign.TheVariants.{Bar};
 ghost use Rattle.cyp_lex.specs.declared.token.Word.TheVariants.{Predicate};
 ghost use Rattle.cyp_text.specs.Parsing.{Gives};
@@ -9,8 +9,7 @@ ghost use Rattle.cyp_text.specs.TextReaders.{clause_at, is_sort, param_at, param
 use crate::lists::{Item, Part};
 use crate::parser::Parser;
 use crate::tree::{ClauseTree, ParamTree, PredTree, SortTree, TextTree};
-use cyp_grammar::Want;
-use cyp_lex::{Sign, TokenKind, Word};
+use cyp_lex::{Sign, TokenKind, Want, Word};
 use cyp_term::{Fail, List};
 use std::alloc::Global;
 

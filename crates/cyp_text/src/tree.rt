@@ -1,5 +1,5 @@
 use crate::lit_tree::LitTree;
-use cyp_grammar::Ident;
+use cyp_lex::Ident;
 use cyp_term::{List, Shared};
 
 /// An integer term. A number that begins it stands behind its place, and so does the number of a

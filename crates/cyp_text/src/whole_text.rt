@@ -1,8 +1,8 @@
 ghost use Rattle.std.specs.Prelude.{[], ◌≡◌, ◌≤◌, ◌∷◌, IfOk, List, length, map, ℕ};
 ghost use Rattle.std.specs.List.{All};
-ghost use Rattle.cyp_grammar.specs.Beginnings.{Begins};
-ghost use Rattle.cyp_grammar.specs.Lexemes.{Lexeme, Said, lexeme_of, said_by};
-ghost use Rattle.cyp_grammar.specs.Readers.{is_sign};
+ghost use Rattle.cyp_lex.specs.Beginnings.{Begins};
+ghost use Rattle.cyp_lex.specs.Lexemes.{Lexeme, Said, lexeme_of, said_by};
+ghost use Rattle.cyp_lex.specs.Readers.{is_sign};
 ghost use Rattle.cyp_lex.specs.Lexing.{LieInOrder};
 ghost use Rattle.cyp_lex.specs.declared.token.Sign.TheVariants.{Minus};
 ghost use Rattle.cyp_text.specs.Grammar.{text_spelling};
@@ -12,8 +12,7 @@ ghost use Rattle.cyp_text.specs.Stopping.{GivesWhole, IsParsed, StopsSo, Tells, 
 
 use crate::parser::Parser;
 use crate::tree::TextTree;
-use cyp_grammar::Want;
-use cyp_lex::{Fault, FaultKind, Sign, Token, TokenKind, Word};
+use cyp_lex::{Fault, FaultKind, Sign, Token, TokenKind, Want, Word};
 use cyp_term::{Fail, NoMemory};
 use std::alloc::Global;
 

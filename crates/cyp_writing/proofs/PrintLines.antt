@@ -3,8 +3,8 @@ use Rattle.std.proofs.Common.{Bool, List, [], ap, append_assoc, cond, false, get
 use Rattle.std.specs.Prelude.{codes, flat_map, not, ◌||◌}
 use Rattle.std.proofs.lemmas.Grind.{flat_map-append}
 use Rattle.std.proofs.lemmas.List.{append-nil, take_all, take_more}
-use Rattle.cyp_grammar.specs.Lexemes.{Name, Number, Reserved, Said, Symbol, Variable}
-use Rattle.cyp_grammar.specs.Spelling.{Mark}
+use Rattle.cyp_lex.specs.Lexemes.{Name, Number, Reserved, Said, Symbol, Variable}
+use Rattle.cyp_lex.specs.Spelling.{Mark}
 use Rattle.cyp_heap.specs.declared.goal.Goal.{Goal}
 use Rattle.cyp_heap.specs.declared.pred.Pred.{Pred}
 use Rattle.cyp_heap.specs.declared.pred.Preds.{Preds}

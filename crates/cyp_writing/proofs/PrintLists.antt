@@ -1,8 +1,8 @@
 -- Lists that are printed item by item.
 use Rattle.std.proofs.Common.{List, [], ap, append_assoc, arith, drop, get_or, length, map, refl, sym, take, ℕ, ◌+◌, ◌++◌, ◌-◌, ◌<◌, ◌≤◌, ◌∙◌, ◌∷◌, ◌≡◌}
 use Rattle.std.proofs.lemmas.List.{append-nil, take_all, take_more}
-use Rattle.cyp_grammar.specs.Lexemes.{Said}
-use Rattle.cyp_grammar.specs.Spelling.{Any, Mark, all_spelling, more_spelling, separated}
+use Rattle.cyp_lex.specs.Lexemes.{Said}
+use Rattle.cyp_lex.specs.Spelling.{Any, Mark, all_spelling, more_spelling, separated}
 use Rattle.cyp_writing.specs.PrintMarks.{Printed, with_marks, with_said}
 use Rattle.cyp_writing.proofs.PrintSteps.{both, with_marks_append}
 

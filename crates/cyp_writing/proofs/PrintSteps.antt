@@ -1,6 +1,6 @@
 -- Marks that are printed one after another.
 use Rattle.std.proofs.Common.{◌≡◌, ◌++◌, ◌∙◌, ◌∷◌, [], List, ap, refl, sym}
-use Rattle.cyp_grammar.specs.Spelling.{Mark}
+use Rattle.cyp_lex.specs.Spelling.{Mark}
 use Rattle.cyp_writing.specs.PrintMarks.{Printed, with_marks, with_said}
 use Rattle.cyp_text.specs.Printing.{mark_said}
 

@@ -2,8 +2,8 @@
 use Rattle.std.proofs.Common.{List, [], ap, arith, drop, false, get_or, length, map, refl, sym, ◌≤◌, ◌++◌, ◌∙◌, ◌∷◌, ◌≡◌}
 use Rattle.std.specs.Prelude.{◌==◌}
 use Rattle.std.proofs.lemmas.List.{append-nil}
-use Rattle.cyp_grammar.specs.Lexemes.{Symbol}
-use Rattle.cyp_grammar.specs.Spelling.{Any, At, Mark, more_spelling, separated, sign}
+use Rattle.cyp_lex.specs.Lexemes.{Symbol}
+use Rattle.cyp_lex.specs.Spelling.{Any, At, Mark, more_spelling, separated, sign}
 use Rattle.cyp_heap.specs.declared.pred.Preds.{Preds}
 use Rattle.cyp_lex.specs.declared.token.Sign.TheVariants.{Comma, LeftBrace, RightBrace, TwoPluses}
 use Rattle.cyp_writing.specs.PrintParts.{elem_marks, set_marks, term_marks, var_marks}

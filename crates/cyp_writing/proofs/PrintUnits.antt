@@ -2,8 +2,8 @@
 use Rattle.std.proofs.Common.{List, [], add-one, ap, append_assoc, false, get_or, length, map, refl, suc, sym, take, ℕ, ◌+◌, ◌++◌, ◌<◌, ◌∙◌, ◌∷◌, ◌≡◌}
 use Rattle.std.specs.Prelude.{filter, ◌==◌}
 use Rattle.std.proofs.lemmas.List.{append-nil, map-append, take_more}
-use Rattle.cyp_grammar.specs.Lexemes.{Symbol}
-use Rattle.cyp_grammar.specs.Spelling.{Mark, all_spelling, more_spelling, separated, sign}
+use Rattle.cyp_lex.specs.Lexemes.{Symbol}
+use Rattle.cyp_lex.specs.Spelling.{Mark, all_spelling, more_spelling, separated, sign}
 use Rattle.cyp_heap.specs.declared.chunk.Arg.{Arg}
 use Rattle.cyp_heap.specs.declared.chunk.Chunk.{Chunk}
 use Rattle.cyp_heap.specs.declared.pred.Preds.{Preds}

@@ -1,7 +1,7 @@
 -- What a printer has written when it has written these tokens.
 use Rattle.std.specs.Prelude.{[], Bool, List, codes, cond, false, not, ℕ, ◌++◌, ◌||◌, ◌∷◌}
-use Rattle.cyp_grammar.specs.Lexemes.{Name, Said, Symbol}
-use Rattle.cyp_grammar.specs.Spelling.{Mark}
+use Rattle.cyp_lex.specs.Lexemes.{Name, Said, Symbol}
+use Rattle.cyp_lex.specs.Spelling.{Mark}
 use Rattle.cyp_lex.specs.declared.token.Sign.TheVariants.{LeftBracket, LeftParen}
 use Rattle.cyp_writing.specs.declared.printer.Edge.{Edge}
 use Rattle.cyp_writing.specs.declared.printer.Edge.TheVariants.{AfterName, AfterOpening, AfterOther, LineStart}

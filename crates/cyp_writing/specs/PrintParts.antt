@@ -1,7 +1,7 @@
 -- How the parts of a specification are spelled where they are printed.
 use Rattle.std.specs.Prelude.{[], Bool, List, decimal, false, map, suc, true, zero, ℕ, ◌++◌, ◌∷◌}
-use Rattle.cyp_grammar.specs.Lexemes.{Number, Reserved, Symbol}
-use Rattle.cyp_grammar.specs.Spelling.{Any, At, Mark, ident, sign}
+use Rattle.cyp_lex.specs.Lexemes.{Number, Reserved, Symbol}
+use Rattle.cyp_lex.specs.Spelling.{Any, At, Mark, ident, sign}
 use Rattle.cyp_heap.specs.declared.chunk.Arg.{Arg}
 use Rattle.cyp_heap.specs.declared.chunk.Chunk.{Chunk}
 use Rattle.cyp_heap.specs.declared.pred.Clause.{Clause}

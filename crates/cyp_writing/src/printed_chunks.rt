@@ -1,5 +1,5 @@
 ghost use Rattle.std.specs.Prelude.{OnOk, slice_get, ◌≡◌};
-ghost use Rattle.cyp_grammar.specs.Lexemes.{Name};
+ghost use Rattle.cyp_lex.specs.Lexemes.{Name};
 ghost use Rattle.cyp_heap.specs.declared.chunk.Chunk.TheVariants.{Block, Cell, Inst};
 ghost use Rattle.cyp_heap.specs.declared.pred.Preds.{Preds};
 ghost use Rattle.cyp_writing.specs.PrintMarks.{with_marks, with_said};

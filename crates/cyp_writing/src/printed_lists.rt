@@ -1,6 +1,6 @@
 ghost use Rattle.std.specs.Prelude.{List, ◌≡◌, OnOk};
-ghost use Rattle.cyp_grammar.specs.Lexemes.{Symbol};
-ghost use Rattle.cyp_grammar.specs.Spelling.{Mark, all_spelling, more_spelling, separated};
+ghost use Rattle.cyp_lex.specs.Lexemes.{Symbol};
+ghost use Rattle.cyp_lex.specs.Spelling.{Mark, all_spelling, more_spelling, separated};
 ghost use Rattle.cyp_heap.specs.declared.pred.Preds.{Preds};
 ghost use Rattle.cyp_writing.specs.PrintMarks.{with_marks};
 

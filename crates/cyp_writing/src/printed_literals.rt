@@ -1,5 +1,5 @@
 ghost use Rattle.std.specs.Prelude.{◌∷◌, ◌++◌, ◌≡◌, OnOk};
-ghost use Rattle.cyp_grammar.specs.Spelling.{sign, word};
+ghost use Rattle.cyp_lex.specs.Spelling.{sign, word};
 ghost use Rattle.cyp_lex.specs.declared.token.Word.TheVariants.{In};
 ghost use Rattle.cyp_writing.specs.PrintMarks.{with_marks};
 ghost use Rattle.cyp_writing.specs.PrintParts.{lit_marks, negated_marks, negation_marks, set_marks};

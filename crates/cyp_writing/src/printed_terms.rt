@@ -1,6 +1,6 @@
 ghost use Rattle.std.specs.Prelude.{OnOk, map, ◌≡◌};
-ghost use Rattle.cyp_grammar.specs.Lexemes.{Symbol};
-ghost use Rattle.cyp_grammar.specs.Spelling.{more_spelling};
+ghost use Rattle.cyp_lex.specs.Lexemes.{Symbol};
+ghost use Rattle.cyp_lex.specs.Spelling.{more_spelling};
 ghost use Rattle.cyp_lex.specs.declared.token.Sign.TheVariants.{TwoPluses};
 ghost use Rattle.cyp_writing.specs.PrintMarks.{with_marks};
 ghost use Rattle.cyp_writing.specs.PrintParts.{constant_marks, elem_marks, offset_marks, set_marks, term_marks, var_marks};

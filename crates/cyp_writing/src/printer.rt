@@ -1,5 +1,5 @@
 ghost use Rattle.std.specs.Prelude.{[], List, OnOk, codes, decimal, not, ℕ, ◌++◌, ◌≡◌};
-ghost use Rattle.cyp_grammar.specs.Lexemes.{Name, Number, Reserved, Symbol};
+ghost use Rattle.cyp_lex.specs.Lexemes.{Name, Number, Reserved, Symbol};
 ghost use Rattle.cyp_lex.specs.declared.token.Word.{Word};
 ghost use Rattle.cyp_writing.specs.declared.printer.Edge.TheVariants.{AfterName, LineStart};
 ghost use Rattle.cyp_writing.specs.PrintMarks.{blank_if, edge_of, takes_blank, with_said};

@@ -1,6 +1,6 @@
 use Rattle.std.proofs.Common.{Some, ap, sym, ◌∙◌}
 use Rattle.std.specs.Str.{bytes_eq}
-use Rattle.cyp_grammar.specs.declared.ident.Ident.{Ident}
+use Rattle.cyp_lex.specs.declared.ident.Ident.{Ident}
 use Rattle.cyp_names.proofs.SeenUses.{known_here}
 use Rattle.cyp_term.specs.declared.term.Sort.{Sort}
 use Rattle.cyp_names.proofs.sorts.known_sort.Goals as goal

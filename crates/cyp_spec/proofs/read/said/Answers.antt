@@ -1,5 +1,5 @@
 use Rattle.std.proofs.Common.{length, map}
-use Rattle.cyp_grammar.specs.Lexemes.{lexeme_of}
+use Rattle.cyp_lex.specs.Lexemes.{lexeme_of}
 use Rattle.cyp_limits.proofs.PlacesInOrder.{tree_in_order}
 use Rattle.cyp_reading.proofs.SmallMarks.{text_small}
 use Rattle.cyp_spec.proofs.Judged.{tree_said}

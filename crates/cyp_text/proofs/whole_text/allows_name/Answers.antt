@@ -1,5 +1,5 @@
 use Rattle.std.proofs.Common.{map}
-use Rattle.cyp_grammar.specs.Lexemes.{lexeme_of}
+use Rattle.cyp_lex.specs.Lexemes.{lexeme_of}
 use Rattle.cyp_text.proofs.KindsRead.{name_allowed, name_refused}
 use Rattle.cyp_text.proofs.StopFaults.{ended, name_told, named_stop}
 use Rattle.cyp_text.proofs.whole_text.allows_name.Goals as goal

@@ -1,6 +1,6 @@
 use Rattle.std.proofs.Common.{arith, length, map, ◌≤◌}
 use Rattle.cyp_text.proofs.FaultParts.{parts_begin, parts_name, token_fault, within_left}
-use Rattle.cyp_grammar.specs.Lexemes.{lexeme_of}
+use Rattle.cyp_lex.specs.Lexemes.{lexeme_of}
 use Rattle.cyp_text.proofs.StopFaults.{end_fault}
 use Rattle.cyp_text.proofs.whole_text.fault.Goals as goal
 

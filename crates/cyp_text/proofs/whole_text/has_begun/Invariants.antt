@@ -1,5 +1,5 @@
 use Rattle.std.proofs.Common.{List, drop, map, ℕ, ◌≡◌}
-use Rattle.cyp_grammar.specs.Lexemes.{lexeme_of}
+use Rattle.cyp_lex.specs.Lexemes.{lexeme_of}
 use Rattle.cyp_text.specs.GrammarFaults.{has_void}
 use Rattle.cyp_text.proofs.whole_text.has_begun.Given as goal
 

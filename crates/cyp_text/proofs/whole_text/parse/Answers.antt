@@ -1,5 +1,5 @@
 use Rattle.std.proofs.Common.{length, map}
-use Rattle.cyp_grammar.specs.Lexemes.{lexeme_of}
+use Rattle.cyp_lex.specs.Lexemes.{lexeme_of}
 use Rattle.cyp_lex.proofs.InOrder.{LieInOrder-within}
 use Rattle.cyp_text.proofs.StopFaults.{whole_is_spelled}
 use Rattle.cyp_text.proofs.whole_text.parse.Goals as goal

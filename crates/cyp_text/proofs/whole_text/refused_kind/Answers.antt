@@ -1,5 +1,5 @@
 use Rattle.std.proofs.Common.{map}
-use Rattle.cyp_grammar.specs.Lexemes.{lexeme_of}
+use Rattle.cyp_lex.specs.Lexemes.{lexeme_of}
 use Rattle.cyp_text.specs.GrammarFaults.{spoiled}
 use Rattle.cyp_text.proofs.KindsRead.{name_allowed, name_refused, other_expected, told_false, told_true, word_expected, word_reserved}
 use Rattle.cyp_text.proofs.whole_text.refused_kind.Goals as goal

@@ -1,5 +1,5 @@
 use Rattle.std.proofs.Common.{List, [], ap, map, sym, take, length, ◌-◌, ◌∙◌}
-use Rattle.cyp_grammar.specs.Lexemes.{Said, lexeme_of, said_by}
+use Rattle.cyp_lex.specs.Lexemes.{Said, lexeme_of, said_by}
 use Rattle.cyp_text.specs.GrammarFaults.{backwards, spoils}
 use Rattle.cyp_text.proofs.KindsRead.{few_spoil}
 use Rattle.cyp_text.proofs.TokensParted.{last_two}

@@ -1,5 +1,5 @@
 use Rattle.std.proofs.Common.{map, sym, ◌∙◌}
-use Rattle.cyp_grammar.specs.Lexemes.{lexeme_of}
+use Rattle.cyp_lex.specs.Lexemes.{lexeme_of}
 use Rattle.cyp_text.proofs.KindsRead.{minus_is, minus_not, minus_result, other_spoils, spoils_at_once}
 use Rattle.cyp_text.proofs.whole_text.spoils_sum.Goals as goal
 

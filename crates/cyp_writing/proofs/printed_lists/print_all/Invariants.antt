@@ -1,5 +1,5 @@
 use Rattle.std.proofs.Common.{take, ◌≡◌}
-use Rattle.cyp_grammar.specs.Spelling.{all_spelling}
+use Rattle.cyp_lex.specs.Spelling.{all_spelling}
 use Rattle.cyp_writing.specs.PrintMarks.{with_marks}
 use Rattle.cyp_writing.proofs.printed_lists.print_all.Given as goal
 

@@ -1,5 +1,5 @@
 use Rattle.std.proofs.lemmas.Result.{on_ok_weaker}
-use Rattle.cyp_grammar.specs.Lexemes.{Symbol}
+use Rattle.cyp_lex.specs.Lexemes.{Symbol}
 use Rattle.cyp_writing.proofs.PrintLists.{apart_ends}
 use Rattle.cyp_writing.proofs.printed_lists.print_apart.Goals as goal
 

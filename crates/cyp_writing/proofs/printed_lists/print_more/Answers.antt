@@ -1,4 +1,4 @@
-use Rattle.cyp_grammar.specs.Lexemes.{Symbol}
+use Rattle.cyp_lex.specs.Lexemes.{Symbol}
 use Rattle.cyp_writing.proofs.PrintLists.{more_step}
 use Rattle.cyp_writing.proofs.printed_lists.print_more.Goals as goal
 

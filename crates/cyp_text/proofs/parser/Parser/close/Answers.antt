@@ -1,6 +1,6 @@
 use Rattle.std.proofs.Common.{List, Ok, arith, refl, suc, ℕ, ◌+◌, ◌-◌, ◌∙◌, ◌≡◌}
-use Rattle.cyp_grammar.specs.Lexemes.{Lexeme}
-use Rattle.cyp_grammar.specs.Readers.{sign_token}
+use Rattle.cyp_lex.specs.Lexemes.{Lexeme}
+use Rattle.cyp_lex.specs.Readers.{sign_token}
 use Rattle.cyp_lex.specs.declared.token.Sign.TheVariants.{RightParen}
 use Rattle.cyp_text.specs.LitReaders.{closes}
 use Rattle.cyp_text.proofs.parser.Parser.close.Goals as goal

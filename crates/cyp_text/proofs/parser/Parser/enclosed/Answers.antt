@@ -1,5 +1,5 @@
 use Rattle.std.proofs.Common.{Err, refl, rules, sym, ◌∙◌, ◌≡◌}
-use Rattle.cyp_grammar.specs.Readers.{enclosed, sign_token}
+use Rattle.cyp_lex.specs.Readers.{enclosed, sign_token}
 use Rattle.cyp_lex.specs.declared.token.Sign.TheVariants.{Comma}
 use Rattle.cyp_text.specs.ListReaders.{parts_list}
 use Rattle.cyp_text.proofs.PartsRead.{enclosed_is, stops_with}

@@ -1,7 +1,7 @@
 use Rattle.std.proofs.Common.{◌≡◌, List, Some, sym, ◌∙◌, ap, [], ◌∷◌, subst}
-use Rattle.cyp_grammar.specs.Lexemes.{Lexeme}
-use Rattle.cyp_grammar.specs.Readers.{heads, is_sign}
-use Rattle.cyp_grammar.specs.SignTests.{same_sign}
+use Rattle.cyp_lex.specs.Lexemes.{Lexeme}
+use Rattle.cyp_lex.specs.Readers.{heads, is_sign}
+use Rattle.cyp_lex.specs.SignTests.{same_sign}
 use Rattle.cyp_lex.specs.declared.token.Sign.{Sign}
 use Rattle.cyp_lex.specs.declared.token.TokenKind.{TokenKind}
 use Rattle.cyp_lex.specs.declared.token.TokenKind.TheVariants as kinds

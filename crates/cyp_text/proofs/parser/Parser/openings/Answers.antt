@@ -1,5 +1,5 @@
 use Rattle.std.proofs.Common.{Err, refl, rules, sym, ◌∙◌, ◌≡◌}
-use Rattle.cyp_grammar.specs.Readers.{is_word}
+use Rattle.cyp_lex.specs.Readers.{is_word}
 use Rattle.cyp_lex.specs.declared.token.Word.TheVariants.{Not}
 use Rattle.cyp_text.specs.ListReaders.{many}
 use Rattle.cyp_text.specs.LitReaders.{opening}

@@ -1,5 +1,5 @@
 use Rattle.std.proofs.Common.{arith, length, refl, rules, sym, ◌∙◌, ◌≡◌, Err, [], ◌≤◌}
-use Rattle.cyp_grammar.specs.Readers.{is_sign, listing, sign_token}
+use Rattle.cyp_lex.specs.Readers.{is_sign, listing, sign_token}
 use Rattle.cyp_text.specs.ListReaders.{more_parts_in}
 use Rattle.cyp_text.proofs.PartsRead.{apart_is, stops_with}
 use Rattle.cyp_text.proofs.parser.Parser.parts_apart.Goals as goal

@@ -1,5 +1,5 @@
 use Rattle.std.proofs.Common.{refl}
-use Rattle.cyp_grammar.specs.Readers.{sign_token}
+use Rattle.cyp_lex.specs.Readers.{sign_token}
 use Rattle.cyp_lex.specs.declared.token.Sign.TheVariants.{RightBrace}
 use Rattle.cyp_text.specs.TextReaders.{pred_at}
 use Rattle.cyp_text.proofs.PartsRead.{residual_is, stops_with}

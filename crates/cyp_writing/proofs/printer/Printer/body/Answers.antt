@@ -1,6 +1,6 @@
 use Rattle.std.proofs.Common.{map, ◌++◌}
 use Rattle.std.proofs.lemmas.Result.{on_ok_weaker}
-use Rattle.cyp_grammar.specs.Spelling.{sign}
+use Rattle.cyp_lex.specs.Spelling.{sign}
 use Rattle.cyp_lex.specs.declared.token.Sign.TheVariants.{LeftBrace, RightBrace}
 use Rattle.cyp_writing.proofs.PrintSteps.{both, enclosed}
 use Rattle.cyp_text.specs.Grammar.{heap_spelling, pure_spelling}

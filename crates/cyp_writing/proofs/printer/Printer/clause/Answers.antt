@@ -1,6 +1,6 @@
 use Rattle.std.proofs.Common.{ap, ◌++◌, ◌∙◌, ◌∷◌}
 use Rattle.std.proofs.lemmas.Result.{on_ok_weaker}
-use Rattle.cyp_grammar.specs.Spelling.{sign}
+use Rattle.cyp_lex.specs.Spelling.{sign}
 use Rattle.cyp_lex.specs.declared.token.Sign.TheVariants.{Implies}
 use Rattle.cyp_writing.specs.PrintMarks.{with_marks}
 use Rattle.cyp_writing.specs.PrintParts.{lit_marks}

@@ -1,7 +1,7 @@
 use Rattle.std.proofs.Common.{[], ap, map, ◌++◌, ◌∙◌, ◌∷◌}
 use Rattle.std.proofs.lemmas.Result.{on_ok_weaker}
-use Rattle.cyp_grammar.specs.Lexemes.{Symbol}
-use Rattle.cyp_grammar.specs.Spelling.{separated, sign}
+use Rattle.cyp_lex.specs.Lexemes.{Symbol}
+use Rattle.cyp_lex.specs.Spelling.{separated, sign}
 use Rattle.cyp_lex.specs.declared.token.Sign.TheVariants.{Comma, LeftParen, RightParen}
 use Rattle.cyp_writing.specs.PrintMarks.{with_marks}
 use Rattle.cyp_writing.specs.PrintParts.{arg_marks}

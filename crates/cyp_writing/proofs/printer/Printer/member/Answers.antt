@@ -1,5 +1,5 @@
 use Rattle.std.proofs.lemmas.Result.{on_ok_weaker}
-use Rattle.cyp_grammar.specs.Spelling.{word}
+use Rattle.cyp_lex.specs.Spelling.{word}
 use Rattle.cyp_lex.specs.declared.token.Word.TheVariants.{In}
 use Rattle.cyp_writing.specs.PrintParts.{set_marks}
 use Rattle.cyp_writing.proofs.PrintSteps.{between}

@@ -1,6 +1,6 @@
 use Rattle.std.proofs.Common.{get_or}
 use Rattle.std.proofs.lemmas.List.{get_or_default}
-use Rattle.cyp_grammar.specs.Lexemes.{Symbol}
+use Rattle.cyp_lex.specs.Lexemes.{Symbol}
 use Rattle.cyp_lex.specs.declared.token.Sign.TheVariants.{TwoPluses}
 use Rattle.cyp_writing.specs.PrintParts.{var_marks}
 use Rattle.cyp_writing.proofs.PrintLists.{more_step}

@@ -1,7 +1,7 @@
 use Rattle.std.proofs.Common.{[], ap, map, sym, ◌++◌, ◌∙◌, ◌∷◌, ◌≡◌}
 use Rattle.std.proofs.lemmas.Result.{on_ok_weaker}
-use Rattle.cyp_grammar.specs.Lexemes.{Name}
-use Rattle.cyp_grammar.specs.Spelling.{all_spelling, ident, sign, word}
+use Rattle.cyp_lex.specs.Lexemes.{Name}
+use Rattle.cyp_lex.specs.Spelling.{all_spelling, ident, sign, word}
 use Rattle.cyp_lex.specs.declared.token.Sign.TheVariants.{LeftBrace, RightBrace}
 use Rattle.cyp_lex.specs.declared.token.Word.TheVariants.{Predicate}
 use Rattle.cyp_writing.specs.PrintMarks.{with_marks, with_said}

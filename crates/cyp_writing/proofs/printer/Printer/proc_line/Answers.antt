@@ -1,6 +1,6 @@
 use Rattle.std.proofs.Common.{ap, map, ◌++◌, ◌∙◌, ◌∷◌, ◌≡◌}
 use Rattle.std.proofs.lemmas.Result.{on_ok_weaker}
-use Rattle.cyp_grammar.specs.Spelling.{ident, word}
+use Rattle.cyp_lex.specs.Spelling.{ident, word}
 use Rattle.cyp_lex.specs.declared.token.Word.TheVariants.{Void}
 use Rattle.cyp_writing.specs.PrintMarks.{with_marks}
 use Rattle.cyp_writing.proofs.PrintLines.{line_written}

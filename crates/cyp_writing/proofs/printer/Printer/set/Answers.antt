@@ -1,7 +1,7 @@
 use Rattle.std.proofs.Common.{ap, arith, drop, get_or, length, sym, ◌++◌, ◌∙◌, ◌≡◌}
 use Rattle.std.proofs.lemmas.Result.{on_ok_weaker}
-use Rattle.cyp_grammar.specs.Lexemes.{Symbol}
-use Rattle.cyp_grammar.specs.Spelling.{more_spelling}
+use Rattle.cyp_lex.specs.Lexemes.{Symbol}
+use Rattle.cyp_lex.specs.Spelling.{more_spelling}
 use Rattle.cyp_lex.specs.declared.token.Sign.TheVariants.{TwoPluses}
 use Rattle.cyp_writing.specs.PrintMarks.{with_marks}
 use Rattle.cyp_writing.specs.PrintParts.{elem_marks, var_marks}

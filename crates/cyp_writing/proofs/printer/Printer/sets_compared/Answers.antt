@@ -1,5 +1,5 @@
 use Rattle.std.proofs.lemmas.Result.{on_ok_weaker}
-use Rattle.cyp_grammar.specs.Spelling.{sign}
+use Rattle.cyp_lex.specs.Spelling.{sign}
 use Rattle.cyp_writing.specs.PrintParts.{set_marks}
 use Rattle.cyp_writing.proofs.PrintSteps.{between}
 use Rattle.cyp_writing.proofs.printer.Printer.sets_compared.Goals as goal

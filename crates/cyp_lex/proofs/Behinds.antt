@@ -1,16 +1,16 @@
 -- What may stand behind a name that begins a spelling.
 use Rattle.std.proofs.Common.{◌≡◌, ℕ, Bool, true, false, List, [], ◌∷◌, ◌⊎◌, inl, inr, refl, ap, subst}
-use Rattle.cyp_grammar.specs.Lexemes.{Lexeme, Name, Said}
-use Rattle.cyp_grammar.specs.Spelling.{Mark, Then, ident, more_spelling}
-use Rattle.cyp_grammar.specs.declared.ident.Ident.{Ident}
-use Rattle.cyp_grammar.specs.Readers.{Read}
-use Rattle.cyp_grammar.proofs.Spellings.{then_split}
-use Rattle.cyp_grammar.proofs.Readings.{Reads}
-use Rattle.cyp_grammar.proofs.Singles.{one}
-use Rattle.cyp_grammar.proofs.Sequences.{spell_both}
-use Rattle.cyp_grammar.proofs.Choices.{spell_either}
-use Rattle.cyp_grammar.proofs.Lists.{listed_spelling}
-use Rattle.cyp_grammar.proofs.Seconds.{Behind, Leads}
+use Rattle.cyp_lex.specs.Lexemes.{Lexeme, Name, Said}
+use Rattle.cyp_lex.specs.Spelling.{Mark, Then, ident, more_spelling}
+use Rattle.cyp_lex.specs.declared.ident.Ident.{Ident}
+use Rattle.cyp_lex.specs.Readers.{Read}
+use Rattle.cyp_lex.proofs.Spellings.{then_split}
+use Rattle.cyp_lex.proofs.Readings.{Reads}
+use Rattle.cyp_lex.proofs.Singles.{one}
+use Rattle.cyp_lex.proofs.Sequences.{spell_both}
+use Rattle.cyp_lex.proofs.Choices.{spell_either}
+use Rattle.cyp_lex.proofs.Lists.{listed_spelling}
+use Rattle.cyp_lex.proofs.Seconds.{Behind, Leads}
 
 -- behind a name that begins the spelling stands one of these lexemes
 pub record NameLeads (A : Type 0) (sp : A → List Mark) (good : Said → Bool) : Type 1 where

@@ -1,10 +1,10 @@
 -- What a reader has to give: the tree that the lexemes spell, or the first lexeme that no text of the grammar allows.
 use Rattle.std.specs.Prelude.{Err, List, Ok, Result, [], length, ◌++◌, ◌∷◌, ◌≡◌}
-use Rattle.cyp_grammar.specs.Lexemes.{Lexeme}
-use Rattle.cyp_grammar.specs.Spelling.{Mark, Match}
-use Rattle.cyp_grammar.specs.Beginnings.{Begins, Refused}
-use Rattle.cyp_grammar.specs.Readers.{IsNamed, Stop}
-use Rattle.cyp_grammar.specs.declared.want.Want.TheVariants.{AName, NoName}
+use Rattle.cyp_lex.specs.Lexemes.{Lexeme}
+use Rattle.cyp_lex.specs.Spelling.{Mark, Match}
+use Rattle.cyp_lex.specs.Beginnings.{Begins, Refused}
+use Rattle.cyp_lex.specs.Readers.{IsNamed, Stop}
+use Rattle.cyp_lex.specs.declared.want.Want.TheVariants.{AName, NoName}
 
 -- the stop is at the first lexeme that is refused, and says whether a name is allowed in its place
 pub record IsStop (A : Type 0) (spell : A → List Mark) (ts : List Lexeme) (s : Stop) : Type 0 where

@@ -4,7 +4,7 @@ use Rattle.cyp_lex.specs.declared.token.Sign.{Sign}
 use Rattle.cyp_lex.specs.declared.token.Sign.TheVariants.{AndAnd, Assign, AtLeast, AtMost, Bar, Comma, Equal, Greater, Implies, LeftBrace, LeftBracket, LeftParen, Less, Minus, Plus, PointsTo, RightBrace, RightBracket, RightParen, Same, Semicolon, SlashAnd, Star, Subset, TwoPluses, TwoStars, Unequal}
 use Rattle.cyp_lex.specs.declared.token.Word.{Word}
 use Rattle.cyp_lex.specs.declared.token.Word.TheVariants.{Else, Emp, Error, Free, If, In, Int, Let, Loc, Malloc, Not, Predicate, Set, True, Void}
-use Rattle.cyp_grammar.specs.SignTests.{same_sign, same_word}
+use Rattle.cyp_lex.specs.SignTests.{same_sign, same_word}
 
 pub sign_is : (s t : Sign) → same_sign s t ≡ true → s ≡ t
 sign_is PointsTo PointsTo e = refl

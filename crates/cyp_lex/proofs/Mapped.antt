@@ -1,11 +1,11 @@
 -- Readers of the same under other trees, and readers after which no lexeme may stand that would go on.
 use Rattle.std.proofs.Common.{◌≡◌, ℕ, Bool, true, false, List, [], ◌∷◌, ◌++◌, Ok, Err, inl, inr, refl, sym, ap, subst, ◌∙◌}
-use Rattle.cyp_grammar.specs.Lexemes.{Lexeme, Name, Said}
-use Rattle.cyp_grammar.specs.Spelling.{IsEnd, Mark, Match, Then}
-use Rattle.cyp_grammar.specs.Readers.{Read, closed, closed_by, heads, mapped, ◌>>=◌}
-use Rattle.cyp_grammar.specs.declared.want.Want.TheVariants.{NoName}
-use Rattle.cyp_grammar.proofs.Spellings.{then_put}
-use Rattle.cyp_grammar.proofs.Readings.{Avoids, May, Next, Reads, Sound, Took, Within}
+use Rattle.cyp_lex.specs.Lexemes.{Lexeme, Name, Said}
+use Rattle.cyp_lex.specs.Spelling.{IsEnd, Mark, Match, Then}
+use Rattle.cyp_lex.specs.Readers.{Read, closed, closed_by, heads, mapped, ◌>>=◌}
+use Rattle.cyp_lex.specs.declared.want.Want.TheVariants.{NoName}
+use Rattle.cyp_lex.proofs.Spellings.{then_put}
+use Rattle.cyp_lex.proofs.Readings.{Avoids, May, Next, Reads, Sound, Took, Within}
 
 pub mapped_reads : {A B : Type 0} {spA : A → List Mark} {s f : Said → Bool} {p : List Lexeme → Read A} {spB : B → List Mark} {n : ℕ} (to : A → B) (back : B → A)
     → ((x : A) → back (to x) ≡ x) → ((y : B) → to (back y) ≡ y) → ((y : B) → spB y ≡ spA (back y)) → Reads n A spA s f p → Reads n B spB s f (mapped to p)

@@ -1,15 +1,15 @@
 -- Readers of single lexemes of one kind, and of lists with a separator between each two.
 use Rattle.std.proofs.Common.{◌≡◌, ℕ, zero, suc, Bool, true, false, cond, List, [], ◌∷◌, Option, Some, None, refl, sym, ap, subst, length, arith}
-use Rattle.cyp_grammar.specs.Lexemes.{Lexeme, Name, Said}
-use Rattle.cyp_grammar.specs.Spelling.{Any, Mark, Match, Then, list_spelling, more_spelling}
-use Rattle.cyp_grammar.specs.Readers.{Read, cons_of, kind_tells, listed, listing, token}
-use Rattle.cyp_grammar.specs.declared.want.Want.TheVariants.{NoName}
-use Rattle.cyp_grammar.proofs.Spellings.{append_nil, then_split}
-use Rattle.cyp_grammar.proofs.Readings.{none, Apart, Reads, Within}
-use Rattle.cyp_grammar.proofs.Sequences.{both_reads, spell_both}
-use Rattle.cyp_grammar.proofs.Singles.{IsSingle, one, single_reads}
-use Rattle.cyp_grammar.proofs.Mapped.{mapped_reads}
-use Rattle.cyp_grammar.proofs.Options.{option_reads, spell_option}
+use Rattle.cyp_lex.specs.Lexemes.{Lexeme, Name, Said}
+use Rattle.cyp_lex.specs.Spelling.{Any, Mark, Match, Then, list_spelling, more_spelling}
+use Rattle.cyp_lex.specs.Readers.{Read, cons_of, kind_tells, listed, listing, token}
+use Rattle.cyp_lex.specs.declared.want.Want.TheVariants.{NoName}
+use Rattle.cyp_lex.proofs.Spellings.{append_nil, then_split}
+use Rattle.cyp_lex.proofs.Readings.{none, Apart, Reads, Within}
+use Rattle.cyp_lex.proofs.Sequences.{both_reads, spell_both}
+use Rattle.cyp_lex.proofs.Singles.{IsSingle, one, single_reads}
+use Rattle.cyp_lex.proofs.Mapped.{mapped_reads}
+use Rattle.cyp_lex.proofs.Options.{option_reads, spell_option}
 
 abbrev pub kind_mark : Said → Unit {0} → Mark
 kind_mark k u = Any k

@@ -1,15 +1,15 @@
 -- Readers of none or more of the same, and then of something else.
 use Rattle.std.proofs.Common.{◌≡◌, ℕ, zero, suc, Bool, true, List, [], ◌∷◌, ◌++◌, ◌⊎◌, inl, inr, refl, subst, append_assoc, length, arith}
-use Rattle.cyp_grammar.specs.Lexemes.{Lexeme, Said}
-use Rattle.cyp_grammar.specs.Spelling.{Mark, Then, all_spelling}
-use Rattle.cyp_grammar.specs.Readers.{Read, one_of, repeated, repeated_tree, repeating}
-use Rattle.cyp_grammar.specs.declared.want.Want.{Want}
-use Rattle.cyp_grammar.proofs.Spellings.{then_split}
-use Rattle.cyp_grammar.proofs.Readings.{Apart, Reads, within_self}
-use Rattle.cyp_grammar.proofs.Sequences.{spell_both, then_reads}
-use Rattle.cyp_grammar.proofs.Mapped.{mapped_reads}
-use Rattle.cyp_grammar.proofs.Choices.{SaysStart, spell_either}
-use Rattle.cyp_grammar.proofs.Firsts.{first_reads, or_left, or_right}
+use Rattle.cyp_lex.specs.Lexemes.{Lexeme, Said}
+use Rattle.cyp_lex.specs.Spelling.{Mark, Then, all_spelling}
+use Rattle.cyp_lex.specs.Readers.{Read, one_of, repeated, repeated_tree, repeating}
+use Rattle.cyp_lex.specs.declared.want.Want.{Want}
+use Rattle.cyp_lex.proofs.Spellings.{then_split}
+use Rattle.cyp_lex.proofs.Readings.{Apart, Reads, within_self}
+use Rattle.cyp_lex.proofs.Sequences.{spell_both, then_reads}
+use Rattle.cyp_lex.proofs.Mapped.{mapped_reads}
+use Rattle.cyp_lex.proofs.Choices.{SaysStart, spell_either}
+use Rattle.cyp_lex.proofs.Firsts.{first_reads, or_left, or_right}
 
 abbrev pub repeated_spelling : {A B : Type 0} → (A → List Mark) → (B → List Mark) → List A × B → List Mark
 repeated_spelling sp spB x = all_spelling sp x.0 ++ spB x.1

@@ -1,11 +1,11 @@
 -- What it means that a reader gives the tree that is spelled, or stops at the first lexeme that nothing of the grammar allows.
 use Rattle.std.proofs.Common.{◌≡◌, ℕ, suc, Bool, true, false, List, [], ◌∷◌, ◌++◌, Ok, Err, ◌⊎◌, inl, inr, refl, ap, length, ◌<◌, arith, length-append}
-use Rattle.cyp_grammar.specs.Lexemes.{Lexeme, Name, Said}
-use Rattle.cyp_grammar.specs.Spelling.{Mark, Match, Then}
-use Rattle.cyp_grammar.specs.Readers.{IsNamed, Read, Stop, heads}
-use Rattle.cyp_grammar.specs.declared.want.Want.{Want}
-use Rattle.cyp_grammar.specs.declared.want.Want.TheVariants.{AName, NoName}
-use Rattle.cyp_grammar.proofs.Spellings.{head_is}
+use Rattle.cyp_lex.specs.Lexemes.{Lexeme, Name, Said}
+use Rattle.cyp_lex.specs.Spelling.{Mark, Match, Then}
+use Rattle.cyp_lex.specs.Readers.{IsNamed, Read, Stop, heads}
+use Rattle.cyp_lex.specs.declared.want.Want.{Want}
+use Rattle.cyp_lex.specs.declared.want.Want.TheVariants.{AName, NoName}
+use Rattle.cyp_lex.proofs.Spellings.{head_is}
 
 abbrev pub SameHead : List Lexeme → List Lexeme → Type 0
 SameHead [] [] = Unit {0}

@@ -21,7 +21,7 @@ pub struct Name {
 
 impl Model for Name {
     ghost use Rattle.std.specs.Prelude.{List, ℕ};
-    ghost use Rattle.cyp_grammar.specs.KeptNames.{kept_bytes};
+    ghost use Rattle.cyp_lex.specs.KeptNames.{kept_bytes};
 
     ghost Value = { List ℕ };
 

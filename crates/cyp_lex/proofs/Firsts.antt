@@ -1,17 +1,17 @@
 -- Choices by the first lexeme, and spellings that may begin with any name.
 use Rattle.std.proofs.Common.{◌≡◌, ℕ, Bool, true, false, ◌||◌, List, [], ◌∷◌, ◌++◌, Option, None, ◌⊎◌, inl, inr, refl, sym, ap, subst, ◌∙◌}
-use Rattle.cyp_grammar.specs.Lexemes.{Lexeme, Said}
-use Rattle.cyp_grammar.specs.Spelling.{Mark, Match, ident}
-use Rattle.cyp_grammar.specs.declared.ident.Ident.{Ident}
-use Rattle.cyp_grammar.specs.Readers.{IsNamed, Read, first_tells, heads, ident_of, one_of}
-use Rattle.cyp_grammar.specs.declared.want.Want.{Want}
-use Rattle.cyp_grammar.proofs.Spellings.{append_nil, match_join}
-use Rattle.cyp_grammar.proofs.Readings.{Apart, Reads, Within}
-use Rattle.cyp_grammar.proofs.Sequences.{spell_both}
-use Rattle.cyp_grammar.proofs.Singles.{one}
-use Rattle.cyp_grammar.proofs.Options.{spell_option}
-use Rattle.cyp_grammar.proofs.Choices.{IsChoice, SaysStart, either_reads, spell_either}
-use Rattle.cyp_grammar.proofs.Lists.{listed_spelling}
+use Rattle.cyp_lex.specs.Lexemes.{Lexeme, Said}
+use Rattle.cyp_lex.specs.Spelling.{Mark, Match, ident}
+use Rattle.cyp_lex.specs.declared.ident.Ident.{Ident}
+use Rattle.cyp_lex.specs.Readers.{IsNamed, Read, first_tells, heads, ident_of, one_of}
+use Rattle.cyp_lex.specs.declared.want.Want.{Want}
+use Rattle.cyp_lex.proofs.Spellings.{append_nil, match_join}
+use Rattle.cyp_lex.proofs.Readings.{Apart, Reads, Within}
+use Rattle.cyp_lex.proofs.Sequences.{spell_both}
+use Rattle.cyp_lex.proofs.Singles.{one}
+use Rattle.cyp_lex.proofs.Options.{spell_option}
+use Rattle.cyp_lex.proofs.Choices.{IsChoice, SaysStart, either_reads, spell_either}
+use Rattle.cyp_lex.proofs.Lists.{listed_spelling}
 
 -- ---- spellings that may begin with any name
 

@@ -2,18 +2,18 @@
 use Rattle.std.proofs.Common.{◌≡◌, ℕ, Bool, List, [], ◌∷◌, ◌++◌, inl, inr, refl}
 use Rattle.cyp_lex.specs.declared.token.Sign.{Sign}
 use Rattle.cyp_lex.specs.declared.token.Sign.TheVariants.{Comma}
-use Rattle.cyp_grammar.specs.Lexemes.{Lexeme, Said, Symbol}
-use Rattle.cyp_grammar.specs.Spelling.{Mark, separated, sign}
-use Rattle.cyp_grammar.specs.Readers.{Enclosed, Read, enclosed, enclosed_list, is_sign, one_of}
-use Rattle.cyp_grammar.specs.declared.want.Want.{Want}
-use Rattle.cyp_grammar.proofs.Readings.{Apart, Reads, Within, none, within_self}
-use Rattle.cyp_grammar.proofs.Singles.{one}
-use Rattle.cyp_grammar.proofs.Sequences.{both_reads, spell_both}
-use Rattle.cyp_grammar.proofs.Mapped.{mapped_reads}
-use Rattle.cyp_grammar.proofs.Choices.{SaysStart, spell_either}
-use Rattle.cyp_grammar.proofs.Lists.{listed_spelling}
-use Rattle.cyp_grammar.proofs.Tellers.{sign_listing_reads, sign_mark, sign_reads}
-use Rattle.cyp_grammar.proofs.Firsts.{NameBegins, first_reads, name_both, name_listed, name_right}
+use Rattle.cyp_lex.specs.Lexemes.{Lexeme, Said, Symbol}
+use Rattle.cyp_lex.specs.Spelling.{Mark, separated, sign}
+use Rattle.cyp_lex.specs.Readers.{Enclosed, Read, enclosed, enclosed_list, is_sign, one_of}
+use Rattle.cyp_lex.specs.declared.want.Want.{Want}
+use Rattle.cyp_lex.proofs.Readings.{Apart, Reads, Within, none, within_self}
+use Rattle.cyp_lex.proofs.Singles.{one}
+use Rattle.cyp_lex.proofs.Sequences.{both_reads, spell_both}
+use Rattle.cyp_lex.proofs.Mapped.{mapped_reads}
+use Rattle.cyp_lex.proofs.Choices.{SaysStart, spell_either}
+use Rattle.cyp_lex.proofs.Lists.{listed_spelling}
+use Rattle.cyp_lex.proofs.Tellers.{sign_listing_reads, sign_mark, sign_reads}
+use Rattle.cyp_lex.proofs.Firsts.{NameBegins, first_reads, name_both, name_listed, name_right}
 
 abbrev pub enclosed_spelling : {A : Type 0} → Sign → (A → List Mark) → List A → List Mark
 enclosed_spelling close sp xs = separated (Symbol Comma) sp xs ++ sign close ∷ []

@@ -1,10 +1,10 @@
 -- Readers of a part that may be left out.
 use Rattle.std.proofs.Common.{◌≡◌, ℕ, suc, Bool, true, false, List, [], ◌∷◌, ◌++◌, Option, Some, None, Ok, Err, refl, sym, ap, subst, ◌∙◌, append_assoc, length, ◌<◌, arith, length-append}
-use Rattle.cyp_grammar.specs.Lexemes.{Lexeme, Name, Said}
-use Rattle.cyp_grammar.specs.Spelling.{IsEnd, Mark, Match, Then}
-use Rattle.cyp_grammar.specs.Readers.{Read, heads, option_after, option_by, ◌>>=◌}
-use Rattle.cyp_grammar.proofs.Spellings.{append_nil, head_is, match_join, nil_left, then_join, then_put, then_split}
-use Rattle.cyp_grammar.proofs.Readings.{Apart, Avoids, Bars, Next, Reads, Sound, Took, Within, avoids_less, bars_next, next_append, no_start}
+use Rattle.cyp_lex.specs.Lexemes.{Lexeme, Name, Said}
+use Rattle.cyp_lex.specs.Spelling.{IsEnd, Mark, Match, Then}
+use Rattle.cyp_lex.specs.Readers.{Read, heads, option_after, option_by, ◌>>=◌}
+use Rattle.cyp_lex.proofs.Spellings.{append_nil, head_is, match_join, nil_left, then_join, then_put, then_split}
+use Rattle.cyp_lex.proofs.Readings.{Apart, Avoids, Bars, Next, Reads, Sound, Took, Within, avoids_less, bars_next, next_append, no_start}
 
 abbrev pub spell_maybe : {B : Type 0} → (B → List Mark) → Option B → List Mark
 spell_maybe g None = []

@@ -1,7 +1,7 @@
 -- Marks one after another, and what may follow them.
 use Rattle.std.proofs.Common.{◌≡◌, List, [], ◌∷◌, ◌++◌, refl, sym, ap, subst}
-use Rattle.cyp_grammar.specs.Lexemes.{Lexeme}
-use Rattle.cyp_grammar.specs.Spelling.{IsEnd, Mark, Match, Then}
+use Rattle.cyp_lex.specs.Lexemes.{Lexeme}
+use Rattle.cyp_lex.specs.Spelling.{IsEnd, Mark, Match, Then}
 
 pub then_split : (a b : List Mark) (K : List Lexeme → Type 0) (ts : List Lexeme) → Then (a ++ b) K ts → Then a (Then b K) ts
 then_split [] b K ts h = h

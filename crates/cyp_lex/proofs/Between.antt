@@ -1,16 +1,16 @@
 -- A lexeme between two parts that tells where the second begins. It may be a name, so that nothing is said here of names where a reader stops.
 use Rattle.std.proofs.Common.{◌≡◌, ℕ, suc, Bool, true, false, List, [], ◌∷◌, ◌++◌, ◌⊎◌, Result, Ok, Err, inl, inr, refl, sym, ap, subst, ◌∙◌, append_assoc, length, arith}
-use Rattle.cyp_grammar.specs.Beginnings.{Begins, Refused}
-use Rattle.cyp_grammar.specs.Lexemes.{Lexeme, Said}
-use Rattle.cyp_grammar.specs.Readers.{Read, Stop, whole_of}
-use Rattle.cyp_grammar.specs.declared.want.Want.TheVariants.{AName}
-use Rattle.cyp_grammar.specs.Spelling.{Any, IsEnd, Mark, Match, Then}
-use Rattle.cyp_grammar.proofs.Stops.{IsReading}
-use Rattle.cyp_grammar.proofs.Spellings.{head_is, then_join, then_put, then_split}
-use Rattle.cyp_grammar.proofs.Readings.{Next, Reads, SameHead, Sound, Stuck, Took}
-use Rattle.cyp_grammar.proofs.Lists.{made}
-use Rattle.cyp_grammar.proofs.Sequences.{pair_is}
-use Rattle.cyp_grammar.proofs.Wholes.{refused_at, whole_reads}
+use Rattle.cyp_lex.specs.Beginnings.{Begins, Refused}
+use Rattle.cyp_lex.specs.Lexemes.{Lexeme, Said}
+use Rattle.cyp_lex.specs.Readers.{Read, Stop, whole_of}
+use Rattle.cyp_lex.specs.declared.want.Want.TheVariants.{AName}
+use Rattle.cyp_lex.specs.Spelling.{Any, IsEnd, Mark, Match, Then}
+use Rattle.cyp_lex.proofs.Stops.{IsReading}
+use Rattle.cyp_lex.proofs.Spellings.{head_is, then_join, then_put, then_split}
+use Rattle.cyp_lex.proofs.Readings.{Next, Reads, SameHead, Sound, Stuck, Took}
+use Rattle.cyp_lex.proofs.Lists.{made}
+use Rattle.cyp_lex.proofs.Sequences.{pair_is}
+use Rattle.cyp_lex.proofs.Wholes.{refused_at, whole_reads}
 
 -- the lexemes go on as no tree's spelling does
 pub record Refusal (A : Type 0) (spell : A → List Mark) (ts : List Lexeme) : Type 0 where

@@ -1,13 +1,13 @@
 -- Choices by the lexeme behind a name.
 use Rattle.std.proofs.Common.{◌≡◌, ℕ, Bool, true, false, cond, not, List, [], ◌∷◌, ◌⊎◌, inl, inr, refl, ap, ◌∙◌}
-use Rattle.cyp_grammar.specs.Lexemes.{Lexeme, Name, Said}
-use Rattle.cyp_grammar.specs.Spelling.{Mark, Then}
-use Rattle.cyp_grammar.specs.Readers.{IsNamed, Read, heads, is_name, left_by_second, one_of, second_tells}
-use Rattle.cyp_grammar.specs.declared.want.Want.{Want}
-use Rattle.cyp_grammar.proofs.Spellings.{head_is}
-use Rattle.cyp_grammar.proofs.Readings.{Apart, Next, Reads, Within, no_start}
-use Rattle.cyp_grammar.proofs.Choices.{IsChoice, SaysStart, either_reads, spell_either}
-use Rattle.cyp_grammar.proofs.Firsts.{or_left, or_other, or_right}
+use Rattle.cyp_lex.specs.Lexemes.{Lexeme, Name, Said}
+use Rattle.cyp_lex.specs.Spelling.{Mark, Then}
+use Rattle.cyp_lex.specs.Readers.{IsNamed, Read, heads, is_name, left_by_second, one_of, second_tells}
+use Rattle.cyp_lex.specs.declared.want.Want.{Want}
+use Rattle.cyp_lex.proofs.Spellings.{head_is}
+use Rattle.cyp_lex.proofs.Readings.{Apart, Next, Reads, Within, no_start}
+use Rattle.cyp_lex.proofs.Choices.{IsChoice, SaysStart, either_reads, spell_either}
+use Rattle.cyp_lex.proofs.Firsts.{or_left, or_other, or_right}
 
 -- the first of a list is one of these
 pub record Leads (good : Said → Bool) (w : List Lexeme) : Type 0 where

@@ -1,7 +1,7 @@
 -- Beginnings of texts of a grammar, and the first lexeme that none of them allows.
 use Rattle.std.specs.Prelude.{List, [], ◌++◌, ◌∷◌}
-use Rattle.cyp_grammar.specs.Lexemes.{Lexeme}
-use Rattle.cyp_grammar.specs.Spelling.{Mark, Match}
+use Rattle.cyp_lex.specs.Lexemes.{Lexeme}
+use Rattle.cyp_lex.specs.Spelling.{Mark, Match}
 
 -- some tree's spelling begins so
 abbrev pub Begins : {A : Type 0} → (A → List Mark) → List Lexeme → Type 0

@@ -1,12 +1,12 @@
 -- Readers of one lexeme.
 use Rattle.std.proofs.Common.{◌≡◌, ℕ, Bool, true, List, [], ◌∷◌, ◌++◌, Option, Some, None, inl, inr, refl, sym, ap, subst, ◌∙◌}
-use Rattle.cyp_grammar.specs.Lexemes.{Lexeme, Said}
-use Rattle.cyp_grammar.specs.Spelling.{Fits, Mark, Then}
-use Rattle.cyp_grammar.specs.Readers.{IsNamed, single, token_or}
-use Rattle.cyp_grammar.specs.declared.want.Want.{Want}
-use Rattle.cyp_grammar.specs.declared.want.Want.TheVariants.{AName, NoName}
-use Rattle.cyp_grammar.proofs.Spellings.{head_is}
-use Rattle.cyp_grammar.proofs.Readings.{Bars, May, Reads, Sound}
+use Rattle.cyp_lex.specs.Lexemes.{Lexeme, Said}
+use Rattle.cyp_lex.specs.Spelling.{Fits, Mark, Then}
+use Rattle.cyp_lex.specs.Readers.{IsNamed, single, token_or}
+use Rattle.cyp_lex.specs.declared.want.Want.{Want}
+use Rattle.cyp_lex.specs.declared.want.Want.TheVariants.{AName, NoName}
+use Rattle.cyp_lex.proofs.Spellings.{head_is}
+use Rattle.cyp_lex.proofs.Readings.{Bars, May, Reads, Sound}
 
 -- what is said of names where a lexeme is refused
 abbrev pub Says : {A : Type 0} → (Lexeme → Option A) → Want → Type 0

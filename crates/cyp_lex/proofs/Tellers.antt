@@ -2,17 +2,17 @@
 use Rattle.std.proofs.Common.{◌≡◌, ℕ, Bool, true, false, cond, List, [], Option, Some, None, refl, sym, ap, ◌∙◌}
 use Rattle.cyp_lex.specs.declared.token.Sign.{Sign}
 use Rattle.cyp_lex.specs.declared.token.Word.{Word}
-use Rattle.cyp_grammar.specs.Lexemes.{Lexeme, Name, Number, Reserved, Said, Symbol}
-use Rattle.cyp_grammar.specs.Spelling.{Any, At, Mark, ident}
-use Rattle.cyp_grammar.specs.declared.ident.Ident.{Ident}
-use Rattle.cyp_grammar.specs.Readers.{Read, ident_of, ident_token, is_name, is_number, is_sign, is_there, is_word, listing, name_of, number_of, number_token, place_if, placed, placed_by, placed_number, plainly, sign_place, sign_token, single, telling, word_place, word_token}
-use Rattle.cyp_grammar.specs.declared.want.Want.{Want}
-use Rattle.cyp_grammar.specs.declared.want.Want.TheVariants.{AName, NoName}
-use Rattle.cyp_grammar.proofs.SameSigns.{sign_is, sign_self, word_is, word_self}
-use Rattle.cyp_grammar.proofs.Readings.{Apart, Reads, Within}
-use Rattle.cyp_grammar.proofs.Singles.{IsSingle, Says, one, single_reads, some_is, some_of}
-use Rattle.cyp_grammar.proofs.Mapped.{mapped_reads}
-use Rattle.cyp_grammar.proofs.Lists.{listed_spelling, listing_reads, made, token_reads}
+use Rattle.cyp_lex.specs.Lexemes.{Lexeme, Name, Number, Reserved, Said, Symbol}
+use Rattle.cyp_lex.specs.Spelling.{Any, At, Mark, ident}
+use Rattle.cyp_lex.specs.declared.ident.Ident.{Ident}
+use Rattle.cyp_lex.specs.Readers.{Read, ident_of, ident_token, is_name, is_number, is_sign, is_there, is_word, listing, name_of, number_of, number_token, place_if, placed, placed_by, placed_number, plainly, sign_place, sign_token, single, telling, word_place, word_token}
+use Rattle.cyp_lex.specs.declared.want.Want.{Want}
+use Rattle.cyp_lex.specs.declared.want.Want.TheVariants.{AName, NoName}
+use Rattle.cyp_lex.proofs.SameSigns.{sign_is, sign_self, word_is, word_self}
+use Rattle.cyp_lex.proofs.Readings.{Apart, Reads, Within}
+use Rattle.cyp_lex.proofs.Singles.{IsSingle, Says, one, single_reads, some_is, some_of}
+use Rattle.cyp_lex.proofs.Mapped.{mapped_reads}
+use Rattle.cyp_lex.proofs.Lists.{listed_spelling, listing_reads, made, token_reads}
 
 -- what is told is what is said
 pub record Tells (A : Type 0) (of : Said → Option A) (said : A → Said) : Type 0 where

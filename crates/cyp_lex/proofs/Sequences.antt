@@ -1,10 +1,10 @@
 -- Readers of one thing after another.
 use Rattle.std.proofs.Common.{◌≡◌, ℕ, suc, Bool, List, [], ◌∷◌, ◌++◌, Ok, Err, sym, ap, subst, ◌∙◌, append_assoc, length, ◌<◌, arith, length-append}
-use Rattle.cyp_grammar.specs.Lexemes.{Lexeme, Said}
-use Rattle.cyp_grammar.specs.Spelling.{IsEnd, Mark, Match, Then}
-use Rattle.cyp_grammar.specs.Readers.{Read, both, ◌>>=◌}
-use Rattle.cyp_grammar.proofs.Spellings.{match_join, nil_left, then_join, then_put, then_split}
-use Rattle.cyp_grammar.proofs.Readings.{Apart, Next, Reads, Sound, Took, bars_next, less_reads, next_append, shorter}
+use Rattle.cyp_lex.specs.Lexemes.{Lexeme, Said}
+use Rattle.cyp_lex.specs.Spelling.{IsEnd, Mark, Match, Then}
+use Rattle.cyp_lex.specs.Readers.{Read, both, ◌>>=◌}
+use Rattle.cyp_lex.proofs.Spellings.{match_join, nil_left, then_join, then_put, then_split}
+use Rattle.cyp_lex.proofs.Readings.{Apart, Next, Reads, Sound, Took, bars_next, less_reads, next_append, shorter}
 
 abbrev pub spell_both : {A B : Type 0} → (A → List Mark) → (B → List Mark) → A × B → List Mark
 spell_both f g x = f x.0 ++ g x.1

@@ -1,12 +1,12 @@
 -- Readers of one of two things.
 use Rattle.std.proofs.Common.{◌≡◌, ℕ, Bool, true, false, List, [], ◌∷◌, ◌++◌, Ok, Err, ◌⊎◌, inl, inr, refl, sym, ap, subst, length, ◌<◌}
-use Rattle.cyp_grammar.specs.Lexemes.{Lexeme, Name, Said}
-use Rattle.cyp_grammar.specs.Spelling.{IsEnd, Mark, Match, Then}
-use Rattle.cyp_grammar.specs.Readers.{IsNamed, Read, either, either_by, heads, pick_by, ◌>>=◌}
-use Rattle.cyp_grammar.specs.declared.want.Want.{Want}
-use Rattle.cyp_grammar.specs.declared.want.Want.TheVariants.{AName, NoName}
-use Rattle.cyp_grammar.proofs.Spellings.{head_is, then_put}
-use Rattle.cyp_grammar.proofs.Readings.{Avoids, Bars, May, Next, Reads, Sound, Within, avoids_less, bars_next, next_append}
+use Rattle.cyp_lex.specs.Lexemes.{Lexeme, Name, Said}
+use Rattle.cyp_lex.specs.Spelling.{IsEnd, Mark, Match, Then}
+use Rattle.cyp_lex.specs.Readers.{IsNamed, Read, either, either_by, heads, pick_by, ◌>>=◌}
+use Rattle.cyp_lex.specs.declared.want.Want.{Want}
+use Rattle.cyp_lex.specs.declared.want.Want.TheVariants.{AName, NoName}
+use Rattle.cyp_lex.proofs.Spellings.{head_is, then_put}
+use Rattle.cyp_lex.proofs.Readings.{Avoids, Bars, May, Next, Reads, Sound, Within, avoids_less, bars_next, next_append}
 
 abbrev pub spell_either : {A B : Type 0} → (A → List Mark) → (B → List Mark) → A ⊎ B → List Mark
 spell_either f g (inl x) = f x

@@ -1,7 +1,7 @@
 -- Where a name keeps its bytes: in itself, or apart.
 use Rattle.std.specs.Prelude.{List, ℕ}
-use Rattle.cyp_grammar.specs.declared.name.Kept.{Kept}
-use Rattle.cyp_grammar.specs.declared.name.Kept.TheVariants.{Long, Short}
+use Rattle.cyp_lex.specs.declared.name.Kept.{Kept}
+use Rattle.cyp_lex.specs.declared.name.Kept.TheVariants.{Long, Short}
 
 -- the bytes themselves
 abbrev pub kept_bytes : Kept → List ℕ

@@ -1,14 +1,14 @@
 -- A reader of the front of the lexemes makes one of all of them.
 use Rattle.std.proofs.Common.{◌≡◌, ℕ, suc, Bool, List, [], ◌∷◌, ◌++◌, Result, Ok, Err, inl, inr, refl, sym, ap, subst, ◌∙◌, append_assoc, length, arith}
-use Rattle.cyp_grammar.specs.Lexemes.{Lexeme, Said}
-use Rattle.cyp_grammar.specs.Spelling.{IsEnd, Mark, Match}
-use Rattle.cyp_grammar.specs.Readers.{Read, Stop, end_by, whole_of, ◌>>=◌}
-use Rattle.cyp_grammar.specs.declared.want.Want.{Want}
-use Rattle.cyp_grammar.specs.declared.want.Want.TheVariants.{AName, NoName}
-use Rattle.cyp_grammar.proofs.Spellings.{append_nil}
-use Rattle.cyp_grammar.proofs.Readings.{Avoids, Bars, May, Next, Reads, Sound, Stuck, Took}
-use Rattle.cyp_grammar.specs.Beginnings.{Begins, Refused}
-use Rattle.cyp_grammar.proofs.Stops.{IsReading, IsStop}
+use Rattle.cyp_lex.specs.Lexemes.{Lexeme, Said}
+use Rattle.cyp_lex.specs.Spelling.{IsEnd, Mark, Match}
+use Rattle.cyp_lex.specs.Readers.{Read, Stop, end_by, whole_of, ◌>>=◌}
+use Rattle.cyp_lex.specs.declared.want.Want.{Want}
+use Rattle.cyp_lex.specs.declared.want.Want.TheVariants.{AName, NoName}
+use Rattle.cyp_lex.proofs.Spellings.{append_nil}
+use Rattle.cyp_lex.proofs.Readings.{Avoids, Bars, May, Next, Reads, Sound, Stuck, Took}
+use Rattle.cyp_lex.specs.Beginnings.{Begins, Refused}
+use Rattle.cyp_lex.proofs.Stops.{IsReading, IsStop}
 
 end_avoids : (f : Said → Bool) → Avoids f IsEnd
 end_avoids f t w k = absurd cc
