@@ -1,12 +1,12 @@
 -- The numbers of a node's variables are below the numbers of new variables.
-use Rattle.std.proofs.Common.{◌≡◌, refl, sym, ℕ, suc, ◌<◌, max, inl, inr, Bool, true, false, cond, List, [], ◌∷◌, arith, subst}
+use Rattle.std.proofs.Common.{◌≡◌, refl, sym, ℕ, suc, ◌<◌, max, inl, inr, Bool, true, false, cond, List, [], ◌∷◌, ◌++◌, arith, subst}
 use Rattle.std.proofs.lemmas.Bool.{false≢true}
 use Rattle.cyp_goal.proofs.EachVar.{Each}
 use Rattle.cyp_heap.specs.Goals.{node_vars}
 use Rattle.cyp_heap.specs.declared.goal.Node.{Node}
 use Rattle.cyp_pred.specs.declared.unfolded.Next.{Next}
 use Rattle.cyp_step.specs.Changes.{above, next_of}
-use Rattle.cyp_term.proofs.Lists.{Among}
+use Rattle.cyp_term.proofs.Lists.{Among, Among-left, Among-right}
 use Rattle.cyp_term.specs.Terms.{sort_eq}
 use Rattle.cyp_term.specs.declared.term.Sort.{Sort}
 use Rattle.cyp_term.specs.declared.term.Sort.TheVariants.{Card, Int, Set}
@@ -36,10 +36,18 @@ number_below k v (w ∷ vs) s (inl e) =
     subst (λ (u : Var). u.number < above k (w ∷ vs)) (sym e) (above_here (sort_eq w.sort k) w.number (above k vs) (subst (λ (u : Var). sort_eq u.sort k ≡ true) e s))
 number_below k v (w ∷ vs) s (inr h) = above_later (sort_eq w.sort k) w.number (above k vs) v.number (number_below k v vs s h)
 
-below_next : (n : Node) (k : Sort) (v : Var) → v.sort ≡ k → Among v (node_vars n) → v.number < next_at (next_of n) k
-below_next n Int v e h = number_below Int v (node_vars n) (subst (λ (s : Sort). sort_eq s Int ≡ true) (sym e) refl) h
-below_next n Card v e h = number_below Card v (node_vars n) (subst (λ (s : Sort). sort_eq s Card ≡ true) (sym e) refl) h
-below_next n Set v e h = number_below Set v (node_vars n) (subst (λ (s : Sort). sort_eq s Set ≡ true) (sym e) refl) h
+-- the variables that new ones are to differ from
+abbrev all_vars : Node → List Var
+all_vars n = node_vars n ++ n.goal.exist
+
+below_next : (n : Node) (k : Sort) (v : Var) → v.sort ≡ k → Among v (all_vars n) → v.number < next_at (next_of n) k
+below_next n Int v e h = number_below Int v (all_vars n) (subst (λ (s : Sort). sort_eq s Int ≡ true) (sym e) refl) h
+below_next n Card v e h = number_below Card v (all_vars n) (subst (λ (s : Sort). sort_eq s Card ≡ true) (sym e) refl) h
+below_next n Set v e h = number_below Set v (all_vars n) (subst (λ (s : Sort). sort_eq s Set ≡ true) (sym e) refl) h
 
 pub old_vars : (n : Node) → Each (IsOld (next_of n)) (node_vars n)
-old_vars n v h = below_next n v.sort v refl h
+old_vars n v h = below_next n v.sort v refl (Among-left v (node_vars n) n.goal.exist h)
+
+-- also the existentials that stand nowhere
+pub old_exist : (n : Node) → Each (IsOld (next_of n)) n.goal.exist
+old_exist n v h = below_next n v.sort v refl (Among-right v (node_vars n) n.goal.exist h)

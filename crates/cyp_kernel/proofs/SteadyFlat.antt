@@ -275,4 +275,4 @@ module _ (n : Node) (w : IsSteadyNode n) where
       (λ d. rw d tt)))
     where
       same : (v : Var) → is_universal n.goal v.sort u ≡ true → sort_eq u.sort v.sort ≡ true
-      same v e = (and_parts _ _ (and_parts _ _ e).0).0
+      same v e = (and_parts _ _ (and_parts _ _ (and_parts _ _ e).0).0).0

@@ -16,7 +16,7 @@ use Rattle.cyp_kernel.proofs.AgreeVars.{chunk_sorted, is_number_var, lit_sorted}
 use Rattle.cyp_kernel.proofs.AppliedVars.{joined}
 use Rattle.cyp_kernel.proofs.NewNumber.{first_new, int_var}
 use Rattle.cyp_kernel.proofs.NormalSteady.{among_at}
-use Rattle.cyp_kernel.proofs.OldVars.{IsOld, next_at, old_vars}
+use Rattle.cyp_kernel.proofs.OldVars.{IsOld, next_at, old_exist}
 use Rattle.cyp_kernel.proofs.SteadyParts.{slice_get-among, sorted_goal}
 use Rattle.cyp_kernel.specs.Correct.{unlinked}
 use Rattle.cyp_kernel.specs.Steady.{IsSteady}
@@ -166,7 +166,7 @@ module _ (n : Node) (w : IsSteadyNode n) where
   settled_node = settled n w.raw
 
   pub exist_old : Each (IsOld (next_of n)) n.goal.exist
-  exist_old v k = old_vars n v (in_among v _ (each_at (λ u. var_in u _) v n.goal.exist w.exist_stand k))
+  exist_old v k = old_exist n v k
 
   -- no new variable is an existential
   pub fresh_clear : (v : Var) → next_at (next_of n) v.sort ≤ v.number → Clear n.goal.exist v

@@ -7,6 +7,7 @@ mod Examples
 pub mod ExamplesDispose
 mod ExamplesSteps
 pub mod ExamplesStores
+mod ExamplesUnreached
 pub mod FactsFit
 pub mod Fewer
 pub mod FirstPlaces

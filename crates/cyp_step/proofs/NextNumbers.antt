@@ -1,5 +1,5 @@
 -- The least numbers above those of variables.
-use Rattle.std.proofs.Common.{◌≡◌, ◌∙◌, ◌+◌, ◌<◌, ◌≤◌, ℕ, suc, List, [], ◌∷◌, ◌++◌, Bool, true, false, cond, IsTrue, drop, get_or, length, max, nat_lt, refl, sym, ap, arith, inl, inr, subst}
+use Rattle.std.proofs.Common.{◌≡◌, ◌∙◌, ◌+◌, ◌<◌, ◌≤◌, ℕ, suc, List, [], ◌∷◌, ◌++◌, Bool, true, false, cond, IsTrue, drop, get_or, length, max, nat_lt, refl, sym, ap, arith, inl, inr, subst, ⊎_elim}
 use Rattle.std.specs.List.{flat_map, list_all}
 use Rattle.std.proofs.lemmas.Bool.{both_ways, cond_both, ltb-true}
 use Rattle.cyp_goal.proofs.Loops.{rest_step}
@@ -12,12 +12,16 @@ use Rattle.cyp_heap.specs.declared.goal.Node.{Node}
 use Rattle.cyp_step.specs.Changes.{above, next_of}
 use Rattle.cyp_pred.specs.declared.unfolded.Next.{Next}
 use Rattle.cyp_term.proofs.Equality.{Decides-var_eq}
-use Rattle.cyp_term.proofs.Lists.{Among, Among-left, each_at, each_from}
+use Rattle.cyp_term.proofs.Lists.{Among, Among-cases, Among-left, Among-right, each_at, each_from}
 use Rattle.cyp_term.proofs.Repeats.{without_repeats_in, without_repeats_out}
 use Rattle.cyp_term.specs.Terms.{sort_eq, term_vars, var_eq, without_repeats}
 use Rattle.cyp_term.specs.declared.term.Sort.{Sort}
 use Rattle.cyp_term.specs.declared.term.Sort.TheVariants.{Card, Int, Set}
 use Rattle.cyp_term.specs.declared.term.Var.{Var}
+
+-- what stands in the first list stands in the other
+first_part : (us vs ws : List Var) (v : Var) → (Among v us → Among v vs) → Among v (us ++ ws) → Among v (vs ++ ws)
+first_part us vs ws v h m = ⊎_elim (λ k. Among-left v vs ws (h k)) (Among-right v vs ws) (Among-cases v us ws m)
 
 module _ (t : Sort) where
   above_at : (v : Var) (vs : List Var) → Among v vs → sort_eq v.sort t ≡ true → suc v.number ≤ above t vs
@@ -37,10 +41,10 @@ module _ (t : Sort) where
       cond_both (sort_eq v.sort t) (max (suc v.number) (above t vs)) (above t vs) (λ n. n ≤ above t ws)
       (λ e. let here = above_at v ws (h v (inl refl)) e in omega arith) (λ e. rest)
 
-  pub above-without_repeats : (vs : List Var) → above t (without_repeats var_eq vs) ≡ above t vs
-  above-without_repeats vs =
-      let one = above_fewer (without_repeats var_eq vs) vs (λ v m. without_repeats_out var_eq Decides-var_eq v vs m) in
-      let other = above_fewer vs (without_repeats var_eq vs) (λ v m. without_repeats_in var_eq Decides-var_eq v vs m) in
+  pub above-without_repeats : (vs ws : List Var) → above t (without_repeats var_eq vs ++ ws) ≡ above t (vs ++ ws)
+  above-without_repeats vs ws =
+      let one = above_fewer (without_repeats var_eq vs ++ ws) (vs ++ ws) (λ v m. first_part (without_repeats var_eq vs) vs ws v (without_repeats_out var_eq Decides-var_eq v vs) m) in
+      let other = above_fewer (vs ++ ws) (without_repeats var_eq vs ++ ws) (λ v m. first_part vs (without_repeats var_eq vs) ws v (without_repeats_in var_eq Decides-var_eq v vs) m) in
       omega arith
 
   -- one more variable
@@ -66,23 +70,22 @@ low_at vs i v h lt is = ltb-true v.number 32 (each_at is_low v vs h (subst (λ w
 abbrev pub all_vars : Node → List Var
 all_vars n = goal_vars n.goal ++ flat_map (λ (k : Link). flat_map term_vars k.tuple ++ image_vars k.map) n.links
 
-pub node_low : (n : Node) (vs : List Var) → KeepsNode n → vs ≡ all_vars n → IsTrue (list_all is_low vs)
-node_low n vs w e =
-    rw e
-    (each_from is_low (all_vars n) (λ v m.
-    each_at is_low v (node_vars n ++ n.goal.exist) w.low (Among-left v (node_vars n) n.goal.exist (without_repeats_in var_eq Decides-var_eq v (all_vars n) m))))
+-- those and the existentials
+abbrev pub vars_and_exist : Node → List Var
+vars_and_exist n = all_vars n ++ n.goal.exist
 
-pub all_vars_made : (n : Node) (g : Goal) (vs ws us : List Var) (ks ls : List Link) → g ≡ n.goal → vs ≡ goal_vars g → ls ≡ n.links → ks ≡ ls
-    → ws ≡ vs ++ flat_map (λ (k : Link). flat_map term_vars k.tuple ++ image_vars k.map) ks → us ≡ ws → us ≡ all_vars n
-all_vars_made n g vs ws us ks ls d v l k w u =
-    u ∙ w ∙ (λ i. (v ∙ ap goal_vars d) i ++ flat_map (λ (k : Link). flat_map term_vars k.tuple ++ image_vars k.map) ((k ∙ l) i))
+pub vars_low : (n : Node) (vs : List Var) → KeepsNode n → vs ≡ vars_and_exist n → IsTrue (list_all is_low vs)
+vars_low n vs w e =
+    rw e
+    (each_from is_low (vars_and_exist n) (λ v m.
+    each_at is_low v (node_vars n ++ n.goal.exist) w.low (first_part (all_vars n) (node_vars n) n.goal.exist v (without_repeats_in var_eq Decides-var_eq v (all_vars n)) m)))
 
 -- the numbers of each sort
 abbrev pub the_next : ℕ → ℕ → ℕ → Next
 the_next a b c = record { ints = a; cards = b; sets = c }
 
-pub next_made : (n : Node) (vs : List Var) (a b c : ℕ) → vs ≡ all_vars n → a ≡ above Int vs → b ≡ above Card vs → c ≡ above Set vs
+pub next_made : (n : Node) (vs : List Var) (a b c : ℕ) → vs ≡ vars_and_exist n → a ≡ above Int vs → b ≡ above Card vs → c ≡ above Set vs
     → the_next a b c ≡ next_of n
 next_made n vs a b c e p q r =
-    let same = λ (t : Sort). ap (above t) e ∙ sym (above-without_repeats t (all_vars n)) in
+    let same = λ (t : Sort). ap (above t) e ∙ sym (above-without_repeats t (all_vars n) n.goal.exist) in
     λ i. the_next ((p ∙ same Int) i) ((q ∙ same Card) i) ((r ∙ same Set) i)

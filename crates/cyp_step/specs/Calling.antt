@@ -14,10 +14,11 @@ use Rattle.cyp_pred.specs.declared.unfolded.Next.{Next}
 use Rattle.cyp_step.specs.Changes.{Raws, add_pre, next_of, pre_of}
 use Rattle.cyp_step.specs.Mends.{writes_for}
 use Rattle.cyp_step.specs.Shown.{is_program_expr, shown}
-use Rattle.cyp_term.specs.Terms.{apply_lit, apply_term, is_set_var, set_var, var_term, wide_lit}
+use Rattle.cyp_term.specs.Terms.{apply_lit, apply_term, is_set_var, set_var, var_term, wide_lit, wide_term}
 use Rattle.cyp_term.specs.declared.lit.Lit.{Lit}
 use Rattle.cyp_term.specs.declared.subst.Subst.{Subst}
 use Rattle.cyp_term.specs.declared.term.Sort.TheVariants.{Int, Set}
+use Rattle.cyp_term.specs.declared.term.Term.{Term}
 use Rattle.cyp_term.specs.declared.term.Var.{Var}
 use Rattle.cyp_unify.specs.Matches.{match_at}
 use Rattle.cyp_unify.specs.declared.found.Match.{Match}
@@ -74,6 +75,12 @@ after_call n l f =
 abbrev pub are_shown : Goal → List Lit → Bool
 are_shown g ls = elim (list_any wide_lit ls) [ true ↦ false | false ↦ shown g ls ]
 
+-- some entry of the decrease is shown; a measure with an offset past 2 ^ 32 after binding is no measure
+abbrev pub is_lower : Node → Link → Match → Bool
+is_lower n l f =
+    let own : List Term = map (apply_term f.by) l.own in
+    elim (list_any wide_term own) [ true ↦ false | false ↦ list_any (shown n.goal) (decreases l.tuple own) ]
+
 -- the companion's precondition is there, with program expressions for its variables, and the measure falls
 abbrev pub is_callable : Node → Link → Match → Bool
 is_callable n l f =
@@ -85,7 +92,7 @@ is_callable n l f =
           | false ↦ false
           | true ↦ elim (is_some (writes_for n.goal f)) [
             | false ↦ false
-            | true ↦ list_any (shown n.goal) (decreases l.tuple (map (apply_term f.by) l.own))
+            | true ↦ is_lower n l f
           ]
         ]
       ]

@@ -15,9 +15,9 @@ abbrev pub above : Sort → List Var → ℕ
 above t [] = 0
 above t (v ∷ vs) = cond (sort_eq v.sort t) (max (suc v.number) (above t vs)) (above t vs)
 
--- for each sort, the least number above those of its variables in the node
+-- for each sort, the least number above those of its variables in the node, the existentials that stand nowhere among them
 abbrev pub next_of : Node → Next
-next_of n = let vs : List Var = node_vars n in record { ints = above Int vs; cards = above Card vs; sets = above Set vs }
+next_of n = let vs : List Var = node_vars n ++ n.goal.exist in record { ints = above Int vs; cards = above Card vs; sets = above Set vs }
 
 -- an integer variable that does not occur in the node
 abbrev pub new_int : Node → Var

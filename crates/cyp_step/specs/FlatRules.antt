@@ -15,6 +15,7 @@ use Rattle.cyp_term.specs.Terms.{is_set_var, lits_vars, plus, set_var, sort_eq, 
 use Rattle.cyp_term.specs.declared.lit.Lit.{Lit}
 use Rattle.cyp_term.specs.declared.lit.Lit.TheVariants.{Eq, Same}
 use Rattle.cyp_term.specs.declared.term.Sort.{Sort}
+use Rattle.cyp_term.specs.declared.term.Sort.TheVariants.{Card}
 use Rattle.cyp_term.specs.declared.term.Term.{Term}
 use Rattle.cyp_term.specs.declared.term.Var.{Var}
 use Rattle.cyp_unify.specs.Frames.{frame_pairs}
@@ -147,9 +148,9 @@ first_exist g = slice_get (filter (λ v. var_in v g.exist) (lits_vars g.pure_pos
 abbrev pub equal_vars : Var → Var → Lit
 equal_vars a b = cond (is_set_var a) (Same (set_var a) (set_var b)) (Eq (var_term a) (var_term b))
 
--- a variable that is no existential, is of this sort and occurs in the goal
+-- a variable of this sort that is no cardinality and no existential, and occurs in the goal
 abbrev pub is_universal : Goal → Sort → Var → Bool
-is_universal g t u = sort_eq u.sort t && not (var_in u g.exist) && var_in u (goal_vars g)
+is_universal g t u = sort_eq u.sort t && not (sort_eq t Card) && not (var_in u g.exist) && var_in u (goal_vars g)
 
 -- an existential is taken to be a universal variable
 abbrev pub raw_pick : Node → Var → Raws

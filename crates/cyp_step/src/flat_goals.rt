@@ -314,11 +314,11 @@ pub(crate) fn after_free(alloc: Global, goal: &Goal, place: u8) -> Result<Option
     }
 }
 
-/// Whether the variable is no existential, is of this sort and occurs in the goal.
+/// Whether the variable is of this sort, no cardinality and no existential, and occurs in the goal.
 fn is_universal(alloc: Global, goal: &Goal, sort: Sort, var: Var) -> Result<bool, NoMemory>
     ensures { IfOk result (λ b. b ≡ is_universal goal.now sort var) }
 {
-    if var.sort != sort || is_among(var, goal.exist.as_slice()) {
+    if var.sort != sort || sort == Sort::Card || is_among(var, goal.exist.as_slice()) {
         return Ok(false);
     }
     let vars = goal_vars(alloc, goal)?;

@@ -1,9 +1,10 @@
 //! The next free numbers of variables at a node.
 
-ghost use Rattle.std.specs.Prelude.{IfOk, IsTrue, max, nat_lt, suc, ◌<◌, ◌≡◌, ◌≤◌, if◌then◌else◌};
+ghost use Rattle.std.specs.Prelude.{IfOk, IsTrue, flat_map, max, nat_lt, suc, ◌++◌, ◌<◌, ◌≡◌, ◌≤◌, if◌then◌else◌};
 ghost use Rattle.std.specs.List.{list_all};
+ghost use Rattle.cyp_heap.specs.Goals.{goal_vars, image_vars};
 ghost use Rattle.cyp_step.specs.Changes.{above, next_of};
-ghost use Rattle.cyp_term.specs.Terms.{sort_eq};
+ghost use Rattle.cyp_term.specs.Terms.{sort_eq, term_vars};
 
 use crate::occurs::{add_all, goal_vars};
 use cyp_heap::Node;
@@ -37,13 +38,24 @@ fn above(vars: &[Var], sort: Sort) -> u8
     next
 }
 
+/// The variables of the node, then its existentials, some of which may stand nowhere.
+fn vars_and_exist(alloc: Global, node: &Node) -> Result<Vec<Var>, NoMemory>
+    ensures vars { IfOk result (λ vs. vs.items ≡ goal_vars node.now.goal ++ flat_map (λ k. flat_map term_vars k.tuple ++ image_vars k.map) node.now.links ++ node.now.goal.exist) }
+    ensures low { IfOk result (λ vs. IsTrue (list_all (λ v. nat_lt v.number 32) vs.items)) }
+{
+    let goal = node.goal();
+    let mut vars = goal_vars(alloc, goal)?;
+    add_all(node.links().as_slice(), &mut vars)?;
+    vars.extend_from_slice(goal.exist.as_slice())?;
+    Ok(vars)
+}
+
 /// For each sort the least number above those of its variables in the node. It is at most 32.
 pub(crate) fn next_of(alloc: Global, node: &Node) -> Result<Next, NoMemory>
     ensures next { IfOk result (λ next. next ≡ next_of node.now) }
     ensures low { IfOk result (λ next. next.ints ≤ 32) }
 {
-    let mut vars = goal_vars(alloc, node.goal())?;
-    add_all(node.links().as_slice(), &mut vars)?;
+    let vars = vars_and_exist(alloc, node)?;
     let vars = vars.as_slice();
     Ok(Next {
         ints: above(vars, Sort::Int),
