@@ -9,13 +9,13 @@ mod flat;
 #[cfg(test)]
 mod goal;
 #[cfg(test)]
-mod grammar;
-#[cfg(test)]
 mod heap;
 #[cfg(test)]
 mod io;
 #[cfg(test)]
 mod lanes;
+#[cfg(test)]
+mod lex;
 #[cfg(test)]
 mod moves;
 #[cfg(test)]

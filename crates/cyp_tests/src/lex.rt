@@ -1,4 +1,4 @@
-use cyp_grammar::Name;
+use cyp_lex::Name;
 use std::test::Fail as Failed;
 
 #[test]
