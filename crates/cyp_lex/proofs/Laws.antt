@@ -1,7 +1,8 @@
 -- Laws of the definitions of tokens.
-use Rattle.std.proofs.Common.{◌≡◌, ℕ, zero, suc, ◌+◌, ◌-◌, ◌*◌, ◌≤◌, ◌<◌, false, List, [], ◌∷◌, ◌++◌, length, get_or, take, drop, length-drop, Result, Ok, Err, Some, None, refl, sym, ap, subst, ◌∙◌, arith, append_assoc, add-zero, drop-cons}
+use Rattle.std.proofs.Common.{◌≡◌, ℕ, zero, suc, ◌+◌, ◌-◌, ◌*◌, ◌≤◌, ◌<◌, false, true, List, [], ◌∷◌, ◌++◌, length, get_or, take, drop, length-drop, Result, Ok, Err, Some, None, refl, sym, ap, subst, ◌∙◌, arith, append_assoc, add-zero, drop-cons}
 use Rattle.std.proofs.lemmas.List.{drop_all, drop-drop, take_all}
 use Rattle.std.specs.Prelude.{codes}
+use Rattle.std.specs.List.{prefix_len}
 use Rattle.std.proofs.lemmas.Bool.Decides.{nat_tests}
 use Rattle.cyp_lex.specs.declared.token.Sign.{Sign}
 use Rattle.cyp_lex.specs.declared.token.TokenKind.{TokenKind}
@@ -50,6 +51,18 @@ sign_begins x b bs text s is blank comment start digit sign =
     let comment' : begins_with (b ∷ bs) (codes "//") ≡ false = subst (λ (t : List ℕ). begins_with t (codes "//") ≡ false) is comment in
     let sign' : sign_at x.signs (b ∷ bs) ≡ Some s = subst (λ (t : List ℕ). sign_at x.signs t ≡ Some s) is sign in
     rw (blank, comment', start, digit, sign') refl
+
+pub number_begins : (x : Lexicon) (b : ℕ) (bs text : List ℕ) (n more : ℕ) → text ≡ b ∷ bs → more ≡ prefix_len is_digit bs → is_blank b ≡ false → begins_with text (codes "//") ≡ false → is_name_start b ≡ false → is_digit b ≡ true
+    → number_result x.greatest (decimal_value 0 (take (more + 1) text)) ≡ Some n → piece_at x b bs ≡ Begun (kinds.Number n) more
+unfolding piece_at
+number_begins x b bs text n more is len blank comment start digit number =
+    let comment' : begins_with (b ∷ bs) (codes "//") ≡ false = subst (λ (t : List ℕ). begins_with t (codes "//") ≡ false) is comment in
+    let one : more + 1 ≡ suc more = omega arith in
+    let front : take (more + 1) text ≡ b ∷ take (prefix_len is_digit bs) bs =
+    ap (λ (t : List ℕ). take (more + 1) t) is ∙ ap (λ (k : ℕ). take k (b ∷ bs)) one ∙ ap (λ (k : ℕ). b ∷ take k bs) len
+    in
+    let number' : number_result x.greatest (decimal_value 0 (b ∷ take (prefix_len is_digit bs) bs)) ≡ Some n = subst (λ (t : List ℕ). number_result x.greatest (decimal_value 0 t) ≡ Some n) front number in
+    rw (blank, comment', start, digit, number') (ap (λ (k : ℕ). Begun (kinds.Number n) k) (sym len))
 
 none_left : (x : Lexicon) (p : ℕ) → lexed x 0 p [] ≡ Ok []
 unfolding lexed

@@ -1,7 +1,7 @@
 ghost use Rattle.std.specs.Prelude.{◌≡◌, ℕ, ◌≤◌, List, ◌∷◌, length, IfOk, IfSome, IsTrue};
 ghost use Rattle.std.specs.List.{prefix_len};
 ghost use Rattle.cyp_lex.specs.Spelled.{sign_text};
-ghost use Rattle.cyp_lex.specs.Lexing.{is_digit, is_name_start, is_name_byte, is_blank, is_no_line_end, name_kind, ends_in_letter, goes_on, stands, sign_at, decimal_value, number_result, specification_lexicon, piece_at, tokens_of, LieInOrder, IsWithin, Gives};
+ghost use Rattle.cyp_lex.specs.Lexing.{is_digit, is_name_start, is_name_byte, is_blank, is_no_line_end, name_kind, ends_in_letter, goes_on, stands, sign_at, decimal_value, number_result, lexed, piece_at, program_tokens_of, tokens_of, LieInOrder, IsWithin, Gives};
 
 use crate::fault::{Fault, FaultKind};
 use crate::token::{Sign, Token, TokenKind, Word};
@@ -26,7 +26,8 @@ const WORDS: [Word; 15] = [
     Word::Error,
 ];
 
-const SIGNS: [Sign; 25] = [
+/// Those of specifications, and behind them those of programs alone.
+const SIGNS: [Sign; 27] = [
     Sign::PointsTo,
     Sign::Subset,
     Sign::TwoStars,
@@ -52,9 +53,15 @@ const SIGNS: [Sign; 25] = [
     Sign::Bar,
     Sign::Plus,
     Sign::Minus,
+    Sign::Star,
+    Sign::Assign,
 ];
 
+const SPECIFICATION_SIGNS: usize = 25;
+
 const GREATEST: u64 = 2147483648;
+
+const GREATEST_OF_PROGRAMS: u64 = 4294967296;
 
 /// What begins at a byte, which has so many bytes more: no token, a token, or a fault.
 #[derive(Clone, Copy)]
@@ -187,24 +194,26 @@ fn find_sign(among: &[Sign], text: &[u8]) -> Option<Sign>
 }
 
 /// The number that the digits write, if it is not too great.
-fn number(digits: &[u8]) -> Option<u64>
-    ensures { result ≡ number_result specification_lexicon.greatest (decimal_value 0 digits.now) }
+fn number(greatest: u64, digits: &[u8]) -> Option<u64>
+    requires { greatest ≤ 4294967296 }
+    ensures { result ≡ number_result greatest (decimal_value 0 digits.now) }
 {
     let mut value: u64 = 0;
     for d in digits {
         value = 10 * value + (d.saturating_sub(48)) as u64;
-        if value > GREATEST {
+        if value > greatest {
             return None;
         }
     }
     Some(value)
 }
 
-/// What begins at the first byte.
+/// What begins at the first byte, in a text with these symbols and numbers.
 #[tactic(auto, unfolding(crate::specs::Lexing::piece_at))]
-fn first_piece(first: u8, after: &[u8], text: &[u8]) -> Piece
-    requires { text.now ≡ first ∷ after.now }
-    ensures value { result ≡ piece_at specification_lexicon first after.now }
+fn first_piece(signs: &[Sign], greatest: u64, first: u8, after: &[u8], text: &[u8]) -> Piece
+    requires text { text.now ≡ first ∷ after.now }
+    requires greatest { greatest ≤ 4294967296 }
+    ensures value { result ≡ piece_at (record { signs = signs.now; greatest = greatest }) first after.now }
     ensures within { IsWithin result after.now }
 {
     if is_blank_byte(first) {
@@ -219,27 +228,33 @@ fn first_piece(first: u8, after: &[u8], text: &[u8]) -> Piece
     }
     if is_digit_byte(first) {
         let more = digits_len(after);
-        return match number(&text[..more + 1]) {
+        return match number(greatest, &text[..more + 1]) {
             None => Piece::Bad(FaultKind::NumberRange),
             Some(n) => Piece::Begun(TokenKind::Number(n), more),
         };
     }
-    match find_sign(SIGNS.as_slice(), text) {
+    match find_sign(signs, text) {
         None => Piece::Bad(FaultKind::BadByte),
         Some(sign) => Piece::Begun(TokenKind::Sign(sign), sign.bytes().len().saturating_sub(1)),
     }
 }
 
-/// The tokens of the text, or the first place where no token begins or a number is too great.
-pub fn tokens(alloc: Global, text: &[u8]) -> Result<List<Token>, Fail<Fault>>
-    requires { length text.now ≤ 65536 }
-    ensures exact { Gives result (tokens_of text.now) }
+/// The tokens of a text with these symbols and numbers.
+fn lex(
+    alloc: Global,
+    signs: &[Sign],
+    greatest: u64,
+    text: &[u8],
+) -> Result<List<Token>, Fail<Fault>>
+    requires size { length text.now ≤ 1048576 }
+    requires greatest { greatest ≤ 4294967296 }
+    ensures exact { Gives result (lexed (record { signs = signs.now; greatest = greatest }) 0 0 text.now) }
     ensures in_order { IfOk result (λ ts. LieInOrder 0 ts (length text.now)) }
 {
     let mut out = Vec::new(alloc);
     let mut at = 0;
     while at < text.len() {
-        match first_piece(text[at], &text[at + 1..], &text[at..]) {
+        match first_piece(signs, greatest, text[at], &text[at + 1..], &text[at..]) {
             Piece::Blank(more) => at += more + 1,
             Piece::Begun(kind, more) => {
                 let end = at + more + 1;
@@ -259,4 +274,24 @@ pub fn tokens(alloc: Global, text: &[u8]) -> Result<List<Token>, Fail<Fault>>
         }
     }
     Ok(List::from_vec(out))
+}
+
+/// The tokens of a specification's text, or the first place where no token begins or a number is
+/// too great.
+pub fn tokens(alloc: Global, text: &[u8]) -> Result<List<Token>, Fail<Fault>>
+    requires { length text.now ≤ 65536 }
+    ensures exact { Gives result (tokens_of text.now) }
+    ensures in_order { IfOk result (λ ts. LieInOrder 0 ts (length text.now)) }
+{
+    lex(alloc, &SIGNS[..SPECIFICATION_SIGNS], GREATEST, text)
+}
+
+/// The tokens of a program's text, or the first place where no token begins or a number is too
+/// great.
+pub fn program_tokens(alloc: Global, text: &[u8]) -> Result<List<Token>, Fail<Fault>>
+    requires { length text.now ≤ 1048576 }
+    ensures exact { Gives result (program_tokens_of text.now) }
+    ensures in_order { IfOk result (λ ts. LieInOrder 0 ts (length text.now)) }
+{
+    lex(alloc, SIGNS.as_slice(), GREATEST_OF_PROGRAMS, text)
 }
