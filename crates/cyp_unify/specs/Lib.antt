@@ -2,3 +2,4 @@ pub mod Frames
 pub mod Matches
 pub mod Meeting
 pub mod Walking
+pub mod Examples
