@@ -19,7 +19,6 @@ use Rattle.cyp_kernel.specs.Compile.{renamed_names, renamings}
 use Rattle.cyp_kernel.specs.Meets.{BodyMeets, IsNaming, MeetsSoFar}
 use Rattle.cyp_kernel.specs.Naming.{Names}
 use Rattle.cyp_kernel.specs.NormalRules.{AllMeetRenamed}
-use Rattle.cyp_kernel.specs.Steady.{IsSteady}
 use Rattle.cyp_kernel.specs.SteadyLaws.{IsSteadyNode}
 use Rattle.cyp_machine.specs.States.{State}
 use Rattle.cyp_prog.specs.Programs.{End, Loading, Procedure, Then}
@@ -119,25 +118,14 @@ ends ps k = (goes, tt)
 reads : (ps : List Procedure) (k : ℕ) → BodyMeets ps no_preds reading_goal names k (Then (Loading 2 (record { var = Some 1; offset = pos 0 })) End)
 reads ps k = through_normal (ByRead 0) (by_read 0) ps reading read (End ∷ []) names [] 2 k no_preds_formed reading_steady named refl tt (ends ps k)
 
--- ---- an existential that doesn't stand in the node may be the new variable
+-- ---- an existential that doesn't stand in the node isn't the new variable
 
 abbrev hidden : Node
 hidden = record { preds = no_preds; goal = record reading_goal { exist = var 2 ∷ [] }; links = [] }
 
-hidden_steady : IsSteady hidden
-hidden_steady = record {
-  sorted = refl;
-  fits = refl;
-  program_int = refl;
-  program_differs = refl;
-  exist_differs = refl;
-  exist_apart = refl;
-  exist_images = λ k i v e h. absurd (slice_get-among {A = Link} [] i k e);
-}
-
--- it is a program variable and an existential of what Read leaves
-not_apart : option_map (map (λ (m : Node). m.goal.program)) (raws hidden (ByRead 0)) ≡ Some ((var 0 ∷ (var 2 ∷ [])) ∷ [])
-not_apart = refl
+-- Read leaves a program variable above it
+above_hidden : option_map (map (λ (m : Node). m.goal.program)) (raws hidden (ByRead 0)) ≡ Some ((var 0 ∷ (var 3 ∷ [])) ∷ [])
+above_hidden = refl
 
 still_hidden : option_map (map (λ (m : Node). m.goal.exist)) (raws hidden (ByRead 0)) ≡ Some ((var 2 ∷ []) ∷ [])
 still_hidden = refl
