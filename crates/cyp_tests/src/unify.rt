@@ -3,7 +3,7 @@ ghost use Rattle.cyp_heap.specs.Chunks.{in_order};
 ghost use Rattle.cyp_term.specs.TermValue.{IsTerm};
 ghost use Rattle.cyp_term.specs.Terms.{var_term};
 ghost use Rattle.cyp_term.specs.declared.term.Sort.TheVariants.{Int};
-ghost use Rattle.cyp_unify.specs.Examples.{cell_goal, kept_vars, linked_cell};
+ghost use Rattle.cyp_tests.specs.LinkedCell.{cell_goal, kept_vars, linked_cell};
 
 use cyp_goal::{TooLarge, normal};
 use cyp_heap::{Arg, BlockAt, CellAt, Chunk, Goal, Heap, InstOf, Link, Node, Preds, Raw};

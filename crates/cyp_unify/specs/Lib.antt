@@ -2,4 +2,3 @@ pub mod Frames
 pub mod Matches
 pub mod Meeting
 pub mod Walking
-pub mod Examples
