@@ -80,6 +80,11 @@ vars_low n vs w e =
     (each_from is_low (vars_and_exist n) (λ v m.
     each_at is_low v (node_vars n ++ n.goal.exist) w.low (first_part (all_vars n) (node_vars n) n.goal.exist v (without_repeats_in var_eq Decides-var_eq v (all_vars n)) m)))
 
+pub vars_made : (n : Node) (g : Goal) (vs ws us es : List Var) (ks ls : List Link) → g ≡ n.goal → vs ≡ goal_vars g → ls ≡ n.links → ks ≡ ls
+    → ws ≡ vs ++ flat_map (λ (k : Link). flat_map term_vars k.tuple ++ image_vars k.map) ks → es ≡ g.exist → us ≡ ws ++ es → us ≡ vars_and_exist n
+vars_made n g vs ws us es ks ls d v l k w e u =
+    u ∙ (λ i. (w ∙ (λ j. (v ∙ ap goal_vars d) j ++ flat_map (λ (k : Link). flat_map term_vars k.tuple ++ image_vars k.map) ((k ∙ l) j))) i ++ (e ∙ ap (λ (q : Goal). q.exist) d) i)
+
 -- the numbers of each sort
 abbrev pub the_next : ℕ → ℕ → ℕ → Next
 the_next a b c = record { ints = a; cards = b; sets = c }
