@@ -1,5 +1,11 @@
+pub mod Answers
+pub mod Codes
+pub mod Kept
 pub mod Kinds
 pub mod Laws
+pub mod Plays
 pub mod Rule
+pub mod Seats
+pub mod Stands
 pub mod Views
 pub mod Words
