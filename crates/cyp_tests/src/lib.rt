@@ -3,6 +3,8 @@
 #![tactic(auto)]
 
 #[cfg(test)]
+mod cancel;
+#[cfg(test)]
 mod diff;
 #[cfg(test)]
 mod flat;
