@@ -1,0 +1,4 @@
+-- The law used at whole derivations, its premises met by computation.
+pub mod Lists
+pub mod Dispose
+pub mod Clear

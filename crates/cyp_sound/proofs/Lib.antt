@@ -1,0 +1,4 @@
+pub mod Safety
+pub mod Time
+pub mod Keeping
+pub mod Examples
