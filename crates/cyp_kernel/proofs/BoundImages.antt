@@ -24,11 +24,11 @@ use Rattle.cyp_unify.specs.Matches.{Content, OfSet, Plain, Position, Walk, add_i
 
 -- ---- a binding that was added behind
 
-pub int_here : (c : Bool) (t y : Term) (Q : Type 0) → (c ≡ true → t ≡ y → Q) → cond c (Some t) None ≡ Some y → (◌≡◌ {A = Option Term} None (Some y)) ⊎ Q
+int_here : (c : Bool) (t y : Term) (Q : Type 0) → (c ≡ true → t ≡ y → Q) → cond c (Some t) None ≡ Some y → (◌≡◌ {A = Option Term} None (Some y)) ⊎ Q
 int_here true t y Q f e = inr (f refl (same_Some t y e))
 int_here false t y Q f e = inl e
 
-pub int_later : (c : Bool) (r y : Term) (o more : Option Term) (Q : Type 0) → (more ≡ Some y → (o ≡ Some y) ⊎ Q) → cond c (Some r) more ≡ Some y → (cond c (Some r) o ≡ Some y) ⊎ Q
+int_later : (c : Bool) (r y : Term) (o more : Option Term) (Q : Type 0) → (more ≡ Some y → (o ≡ Some y) ⊎ Q) → cond c (Some r) more ≡ Some y → (cond c (Some r) o ≡ Some y) ⊎ Q
 int_later true r y o more Q f e = inl e
 int_later false r y o more Q f e = f e
 
@@ -37,11 +37,11 @@ int_back [] v t x y e = int_here (var_eq v x) t y ((v ≡ x) × (t ≡ y)) (λ p
 int_back (b ∷ bs) v t x y e =
     int_later (var_eq b.var x) b.to y (int_image bs x) (int_image (bs ++ record { var = v; to = t } ∷ []) x) ((v ≡ x) × (t ≡ y)) (int_back bs v t x y) e
 
-pub set_here : (c : Bool) (t y : SetTerm) (Q : Type 0) → (c ≡ true → t ≡ y → Q) → cond c (Some t) None ≡ Some y → (◌≡◌ {A = Option SetTerm} None (Some y)) ⊎ Q
+set_here : (c : Bool) (t y : SetTerm) (Q : Type 0) → (c ≡ true → t ≡ y → Q) → cond c (Some t) None ≡ Some y → (◌≡◌ {A = Option SetTerm} None (Some y)) ⊎ Q
 set_here true t y Q f e = inr (f refl (same_Some t y e))
 set_here false t y Q f e = inl e
 
-pub set_later : (c : Bool) (r y : SetTerm) (o more : Option SetTerm) (Q : Type 0) → (more ≡ Some y → (o ≡ Some y) ⊎ Q) → cond c (Some r) more ≡ Some y → (cond c (Some r) o ≡ Some y) ⊎ Q
+set_later : (c : Bool) (r y : SetTerm) (o more : Option SetTerm) (Q : Type 0) → (more ≡ Some y → (o ≡ Some y) ⊎ Q) → cond c (Some r) more ≡ Some y → (cond c (Some r) o ≡ Some y) ⊎ Q
 set_later true r y o more Q f e = inl e
 set_later false r y o more Q f e = f e
 
@@ -71,7 +71,7 @@ module _ (P : Var → Type 0) where
       pub ints : (v : Var) (t : Term) → int_image by.ints v ≡ Some t → GoodTerm t × (var_in v exist ≡ false)
       pub sets : (v : Var) (u : SetTerm) → set_image by.sets v ≡ Some u → GoodSet u × (var_in v exist ≡ false)
 
-    pub add_int_good : (by : Subst) (v : Var) (t : Term) → GoodBinds by → GoodTerm t → var_in v exist ≡ false → GoodBinds (add_int by v t)
+    add_int_good : (by : Subst) (v : Var) (t : Term) → GoodBinds by → GoodTerm t → var_in v exist ≡ false → GoodBinds (add_int by v t)
     add_int_good by v t g good free = record {
       ints = λ x y e. elim (int_back by.ints v t x y e) [
         | inl i ↦ g.ints x y i
@@ -80,7 +80,7 @@ module _ (P : Var → Type 0) where
       sets = g.sets;
     }
 
-    pub add_set_good : (by : Subst) (v : Var) (u : SetTerm) → GoodBinds by → GoodSet u → var_in v exist ≡ false → GoodBinds (add_set by v u)
+    add_set_good : (by : Subst) (v : Var) (u : SetTerm) → GoodBinds by → GoodSet u → var_in v exist ≡ false → GoodBinds (add_set by v u)
     add_set_good by v u g good free = record {
       ints = g.ints;
       sets = λ x y e. elim (set_back by.sets v u x y e) [
@@ -130,7 +130,7 @@ module _ (P : Var → Type 0) where
       step_good (Content k t r) f g = content_good k t r f g (binds exist w.by t) refl
       step_good (OfSet x r) f g = set_good x r f g (lone_of_parts x.vars x.elems) refl
 
-    pub walk_good : (w : Walk) → GoodBinds w.by → (ps : List Position) → AllByRecursion (IsFreeOf exist) ps → AllByRecursion GoodRight ps → GoodBinds (walk exist w ps).by
+    walk_good : (w : Walk) → GoodBinds w.by → (ps : List Position) → AllByRecursion (IsFreeOf exist) ps → AllByRecursion GoodRight ps → GoodBinds (walk exist w ps).by
     walk_good w g [] f k = g
     walk_good w g (p ∷ ps) f k = walk_good (walk_step exist w p) (step_good w g p f.0 k.0) ps f.1 k.1
 
@@ -175,25 +175,25 @@ abbrev pub BoundBy : Subst → Var → Bool → Type 0
 BoundBy by v false = (t : Term) × (int_image by.ints v ≡ Some t)
 BoundBy by v true = (u : SetTerm) × (set_image by.sets v ≡ Some u)
 
-pub stays_bound : (by more : Subst) (v : Var) (b : Bool) → Extends by more → BoundBy by v b → BoundBy more v b
+stays_bound : (by more : Subst) (v : Var) (b : Bool) → Extends by more → BoundBy by v b → BoundBy more v b
 stays_bound by more v false x k = (k.0, x.ints v k.0 k.1)
 stays_bound by more v true x k = (k.0, x.sets v k.0 k.1)
 
-pub int_is_bound : (m by more : Subst) (v : Var) (b : Bool) → is_some (int_image by.ints v) ≡ b → elim b [ true ↦ Some by | false ↦ option_map (add_int by v) (int_image m.ints v) ] ≡ Some more
+int_is_bound : (m by more : Subst) (v : Var) (b : Bool) → is_some (int_image by.ints v) ≡ b → elim b [ true ↦ Some by | false ↦ option_map (add_int by v) (int_image m.ints v) ] ≡ Some more
     → BoundBy more v false
 int_is_bound m by more v true q e = subst (λ (x : Subst). BoundBy x v false) (same_Some by more e) (is_some_out (int_image by.ints v) q)
 int_is_bound m by more v false q e =
     let a = mapped_some (add_int by v) (int_image m.ints v) more e in
     subst (λ (x : Subst). BoundBy x v false) a.2 (a.0, int_last by.ints v a.0 (is_none_from (int_image by.ints v) q))
 
-pub set_is_bound : (m by more : Subst) (v : Var) (b : Bool) → is_some (set_image by.sets v) ≡ b → elim b [ true ↦ Some by | false ↦ option_map (add_set by v) (set_image m.sets v) ] ≡ Some more
+set_is_bound : (m by more : Subst) (v : Var) (b : Bool) → is_some (set_image by.sets v) ≡ b → elim b [ true ↦ Some by | false ↦ option_map (add_set by v) (set_image m.sets v) ] ≡ Some more
     → BoundBy more v true
 set_is_bound m by more v true q e = subst (λ (x : Subst). BoundBy x v true) (same_Some by more e) (is_some_out (set_image by.sets v) q)
 set_is_bound m by more v false q e =
     let a = mapped_some (add_set by v) (set_image m.sets v) more e in
     subst (λ (x : Subst). BoundBy x v true) a.2 (a.0, set_last by.sets v a.0 (is_none_from (set_image by.sets v) q))
 
-pub is_bound : (m by more : Subst) (v : Var) (b : Bool)
+is_bound : (m by more : Subst) (v : Var) (b : Bool)
     → elim b [
       | false ↦ elim (is_some (int_image by.ints v)) [ true ↦ Some by | false ↦ option_map (add_int by v) (int_image m.ints v) ]
       | true ↦ elim (is_some (set_image by.sets v)) [ true ↦ Some by | false ↦ option_map (add_set by v) (set_image m.sets v) ]

@@ -53,13 +53,13 @@ use Rattle.cyp_unify.specs.declared.found.Match.{Match}
 
 -- ---- sets, tags and chunks beside
 
-pub set_same : (s u : Assignment) (x : SetTerm) → set_fits is_number_var is_set_var x ≡ true → Each (AgreeAt s u) (set_vars x) → SameMembers (set_value s x) (set_value u x)
+set_same : (s u : Assignment) (x : SetTerm) → set_fits is_number_var is_set_var x ≡ true → Each (AgreeAt s u) (set_vars x) → SameMembers (set_value s x) (set_value u x)
 set_same s u x f e =
     let c : Chunk = Inst (record { pred = 0; args = SetArg x ∷ []; card = None; tag = 0 }) in
     (same_by_vars s u c (and_from (set_fits is_number_var is_set_var x && true) true (and_from (set_fits is_number_var is_set_var x) true f refl) refl)
     (λ v k. e v (subst (Among v) (append-nil (set_vars x ++ []) ∙ append-nil (set_vars x)) k))).1.0
 
-pub same_tags : (a : Var) (tag k : ℕ) (cs : List Chunk) → with_tags (Some a) tag k cs ≡ with_new_cards tag k cs
+same_tags : (a : Var) (tag k : ℕ) (cs : List Chunk) → with_tags (Some a) tag k cs ≡ with_new_cards tag k cs
 same_tags a tag k [] = refl
 same_tags a tag k (Inst i ∷ cs) = ap (λ ds. Inst (record { pred = i.pred; args = i.args; card = Some (card_var k); tag = tag }) ∷ ds) (same_tags a tag (suc k) cs)
 same_tags a tag k (Block b ∷ cs) = ap (λ ds. Block b ∷ ds) (same_tags a tag k cs)
@@ -91,13 +91,13 @@ module _ (n : Node) (steady : IsSteady n) (i : ℕ) (l : Link) (at : slice_get n
   abbrev pub outside : List Var
   outside = filter (λ v. not (var_in v exist)) (goal_vars l.goal)
 
-  pub bound_outside : (v : Var) → Among v (goal_vars l.goal) → var_in v exist ≡ false → BoundBy f.by v (is_set_var v)
+  bound_outside : (v : Var) → Among v (goal_vars l.goal) → var_in v exist ≡ false → BoundBy f.by v (is_set_var v)
   bound_outside v k e =
       all_are_bound l.map (walk exist no_walk (found n l ks f match).steps).by f.by (to_bind l) (found n l ks f match).bound v
       (without_repeats_in var_eq Decides-var_eq v (outside ++ flat_map term_vars l.own)
       (Among-left v outside (flat_map term_vars l.own) (filter_in (λ v. not (var_in v exist)) v (goal_vars l.goal) k (ap not e))))
 
-  pub binds_good : GoodBinds (IsOld next) exist f.by
+  binds_good : GoodBinds (IsOld next) exist f.by
   binds_good =
       let o = found n l ks f match in
       let old = old_parts n in
@@ -106,7 +106,7 @@ module _ (n : Node) (steady : IsSteady n) (i : ℕ) (l : Link) (at : slice_get n
       (rights_good (IsOld next) (pre_of n) l.goal.pre.chunks ks o.steps o.paired (sorted_goal n steady).pre old.pre))
       o.bound
 
-  pub unbound : (v : Var) → Among v exist → IsUnbound f.by v
+  unbound : (v : Var) → Among v exist → IsUnbound f.by v
   unbound v k =
       let there = in_from_among v exist k in
       record { ints = λ t e. both_ways (var_in v exist) (binds_good.ints v t e).1 there; sets = λ u e. both_ways (var_in v exist) (binds_good.sets v u e).1 there }
@@ -120,10 +120,10 @@ module _ (n : Node) (steady : IsSteady n) (i : ℕ) (l : Link) (at : slice_get n
     abbrev pub values : Assignment
     values = after_values next ms s t exist
 
-    pub old_agree : (v : Var) → IsOld next v → AgreeAt s values v
+    old_agree : (v : Var) → IsOld next v → AgreeAt s values v
     old_agree v h = opened_old next 0 0 ms s (listed t exist) v h
 
-    pub outside_agrees : (v : Var) (b : Bool) → sort_eq v.sort Set ≡ b → BoundBy f.by v b → AgreeBy v.sort (under f.by s) t v → AgreeBy v.sort (under by values) t v
+    outside_agrees : (v : Var) (b : Bool) → sort_eq v.sort Set ≡ b → BoundBy f.by v b → AgreeBy v.sort (under f.by s) t v → AgreeBy v.sort (under by values) t v
     outside_agrees v false e k a =
         let good = (binds_good.ints v k.0 k.1).0 in
         let kept = (exist_extends next exist f.by).ints v k.0 k.1 in
@@ -138,7 +138,7 @@ module _ (n : Node) (steady : IsSteady n) (i : ℕ) (l : Link) (at : slice_get n
         (λ p z. ap (int_in z) (ap (image_members values v) kept) ∙ sym (set_same s values k.0 good.0 (λ x m. old_agree x (good.1 x m)) z) ∙ sym (ap (int_in z) (ap (image_members s v) k.1))
         ∙ same_members (under f.by s) t v p a z)
 
-    pub inner_agrees : (v : Var) → Among v (goal_vars l.goal) → AgreeAt (under by values) t v
+    inner_agrees : (v : Var) → Among v (goal_vars l.goal) → AgreeAt (under by values) t v
     inner_agrees v k = by_test (var_in v exist) refl
       where
         by_test : (b : Bool) → var_in v exist ≡ b → AgreeAt (under by values) t v
@@ -151,7 +151,7 @@ module _ (n : Node) (steady : IsSteady n) (i : ℕ) (l : Link) (at : slice_get n
     abbrev pub left : ℕ → List Chunk
     left tag = with_new_cards tag next.cards (map (apply_chunk by) l.goal.post.chunks)
 
-    pub new_side : (tag : ℕ) (g : Store) → SideHolds n.preds t l.goal.pure_post l.goal.post.chunks g ms → AllTrue values (map (apply_lit by) l.goal.pure_post) × AllHold inst values (left tag) g
+    new_side : (tag : ℕ) (g : Store) → SideHolds n.preds t l.goal.pure_post l.goal.post.chunks g ms → AllTrue values (map (apply_lit by) l.goal.pure_post) × AllHold inst values (left tag) g
     new_side tag g side =
         let d : Goal = l.goal in
         let sorted = sorted_goal (unlinked n.preds d) inner in
@@ -167,7 +167,7 @@ module _ (n : Node) (steady : IsSteady n) (i : ℕ) (l : Link) (at : slice_get n
               (ms, tagged inst values (Some (card_var 0)) tag next.cards cs g ms chunks, cards_tagged inst values (card_var 0) tag next.cards cs g ms chunks (cards_are next 0 0 ms s (listed t exist))),
         )
 
-    pub old_side : (rest : Store) → AllHold inst s (chunks_beside 0 ks (pre_of n)) rest → AllHold inst values (chunks_beside 0 ks (pre_of n)) rest
+    old_side : (rest : Store) → AllHold inst s (chunks_beside 0 ks (pre_of n)) rest → AllHold inst values (chunks_beside 0 ks (pre_of n)) rest
     old_side rest a =
         let old = old_parts n in
         let beside : List Chunk = chunks_beside 0 ks (pre_of n) in

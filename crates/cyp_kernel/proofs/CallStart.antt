@@ -54,15 +54,15 @@ pub record Callable (n : Node) (l : Link) (f : Match) : Type 0 where
   pub writable : list_all (is_writable n.goal) (filter (is_needed n.goal) f.mends) ≡ true
   pub writes : writes_for n.goal f ≡ Some (filter (is_needed n.goal) f.mends)
 
-pub passed : (a b : Bool) → elim a [ false ↦ false | true ↦ b ] ≡ true → (a ≡ true) × (b ≡ true)
+passed : (a b : Bool) → elim a [ false ↦ false | true ↦ b ] ≡ true → (a ≡ true) × (b ≡ true)
 passed true b e = (refl, e)
 passed false b e = absurd (false≢true e)
 
-pub not_passed : (a b : Bool) → elim a [ true ↦ false | false ↦ b ] ≡ true → b ≡ true
+not_passed : (a b : Bool) → elim a [ true ↦ false | false ↦ b ] ≡ true → b ≡ true
 not_passed true b e = absurd (false≢true e)
 not_passed false b e = e
 
-pub written_true : {A : Type 0} (b : Bool) (x : A) → is_some (cond b (Some x) None) ≡ true → b ≡ true
+written_true : {A : Type 0} (b : Bool) (x : A) → is_some (cond b (Some x) None) ≡ true → b ≡ true
 written_true true x e = refl
 written_true false x e = absurd (false≢true e)
 
@@ -135,7 +135,7 @@ module _ (n : Node) (steady : IsSteady n) (l : Link) (inner : IsSteady (unlinked
 
   -- ---- the values that are passed
 
-  pub args_are : (names : Names) (vs : Values) → AreNamed names vs s n.goal.program → (xs : List Var) → list_all (λ v. is_program_expr n.goal (apply_term f.by (var_term v))) xs ≡ true
+  args_are : (names : Names) (vs : Values) → AreNamed names vs s n.goal.program → (xs : List Var) → list_all (λ v. is_program_expr n.goal (apply_term f.by (var_term v))) xs ≡ true
       → map (expr_value vs) (map (λ v. expr_of names (apply_term f.by (var_term v))) xs) ≡ map callee_values.number xs
   args_are names vs named [] e = refl
   args_are names vs named (v ∷ xs) e =

@@ -32,15 +32,15 @@ use Rattle.cyp_unify.specs.Matches.{Position, arg_positions, card_position, posi
 
 -- ---- images of a map
 
-pub int_image_by : (c : Bool) (r t : Term) (o : Option Term) (Q : Type 0) → (r ≡ t → Q) → (o ≡ Some t → Q) → cond c (Some r) o ≡ Some t → Q
+int_image_by : (c : Bool) (r t : Term) (o : Option Term) (Q : Type 0) → (r ≡ t → Q) → (o ≡ Some t → Q) → cond c (Some r) o ≡ Some t → Q
 int_image_by true r t o Q f g e = f (same_Some r t e)
 int_image_by false r t o Q f g e = g e
 
-pub set_image_by : (c : Bool) (r t : SetTerm) (o : Option SetTerm) (Q : Type 0) → (r ≡ t → Q) → (o ≡ Some t → Q) → cond c (Some r) o ≡ Some t → Q
+set_image_by : (c : Bool) (r t : SetTerm) (o : Option SetTerm) (Q : Type 0) → (r ≡ t → Q) → (o ≡ Some t → Q) → cond c (Some r) o ≡ Some t → Q
 set_image_by true r t o Q f g e = f (same_Some r t e)
 set_image_by false r t o Q f g e = g e
 
-pub int_image_at : (bs : List IntBind) (v : Var) (t : Term) → int_image bs v ≡ Some t → (b : IntBind) × Among b bs × (b.to ≡ t)
+int_image_at : (bs : List IntBind) (v : Var) (t : Term) → int_image bs v ≡ Some t → (b : IntBind) × Among b bs × (b.to ≡ t)
 int_image_at [] v t e = absurd (none-some t e)
 int_image_at (b ∷ bs) v t e =
     int_image_by (var_eq b.var v) b.to t (int_image bs v) ((a : IntBind) × Among a (b ∷ bs) × (a.to ≡ t)) (λ p. (b, inl refl, p)) (λ p. let r = int_image_at bs v t p in (r.0, inr r.1, r.2)) e
@@ -54,12 +54,12 @@ set_image_at (b ∷ bs) v t e =
 abbrev pub ExistFree : Subst → List Var → Bool
 ExistFree m exist = list_all (λ v. is_none (int_image m.ints v) && is_none (set_image m.sets v)) exist
 
-pub no_image : {A : Type 0} (o : Option A) (x : A) → is_none o ≡ true → o ≡ Some x → ⊥
+no_image : {A : Type 0} (o : Option A) (x : A) → is_none o ≡ true → o ≡ Some x → ⊥
 no_image None x n e = none-some x e
 no_image (Some y) x n e = false≢true n
 
 module _ (P : Var → Type 0) where
-  pub map_is_good : (exist : List Var) (m : Subst) → ExistFree m exist ≡ true → images_fit is_number_var is_set_var m ≡ true → Each P (image_vars m) → GoodBinds P exist m
+  map_is_good : (exist : List Var) (m : Subst) → ExistFree m exist ≡ true → images_fit is_number_var is_set_var m ≡ true → Each P (image_vars m) → GoodBinds P exist m
   map_is_good exist m free f e =
       let both = and_parts (list_all (λ (b : IntBind). term_fits is_number_var b.to) m.ints) (list_all (λ (b : SetBind). set_fits is_number_var is_set_var b.to) m.sets) f in
       let ints : List Var = flat_map (λ (b : IntBind). term_vars b.to) m.ints in
@@ -97,7 +97,7 @@ module _ (P : Var → Type 0) where
 
   -- ---- present sides
 
-  pub args_right : (xs ys : List Arg) → list_all (arg_fits is_number_var is_set_var) ys ≡ true → Each P (flat_map arg_vars ys) → AllByRecursion (GoodRight P) (arg_positions xs ys)
+  args_right : (xs ys : List Arg) → list_all (arg_fits is_number_var is_set_var) ys ≡ true → Each P (flat_map arg_vars ys) → AllByRecursion (GoodRight P) (arg_positions xs ys)
   args_right [] ys f e = tt
   args_right (x ∷ xs) [] f e = tt
   args_right (IntArg x ∷ xs) (IntArg y ∷ ys) f e =
@@ -111,12 +111,12 @@ module _ (P : Var → Type 0) where
   args_right (SetArg x ∷ xs) (IntArg y ∷ ys) f e =
       args_right xs ys (and_parts (term_fits is_number_var y) (list_all (arg_fits is_number_var is_set_var) ys) f).1 (second P (term_vars y) (flat_map arg_vars ys) e)
 
-  pub card_right : (c d : Option Var) → list_all is_number_var (card_vars d) ≡ true → Each P (card_vars d) → AllByRecursion (GoodRight P) (card_position c d)
+  card_right : (c d : Option Var) → list_all is_number_var (card_vars d) ≡ true → Each P (card_vars d) → AllByRecursion (GoodRight P) (card_position c d)
   card_right None d f e = tt
   card_right (Some c) None f e = tt
   card_right (Some c) (Some d) f e = ((f, e), tt)
 
-  pub chunk_right : (c d : Chunk) (k : ℕ) → chunk_sorted d ≡ true → Each P (chunk_vars d) → AllByRecursion (GoodRight P) (positions c k d)
+  chunk_right : (c d : Chunk) (k : ℕ) → chunk_sorted d ≡ true → Each P (chunk_vars d) → AllByRecursion (GoodRight P) (positions c k d)
   chunk_right (Inst i) (Inst j) k f e =
       let both = and_parts (list_all (arg_fits is_number_var is_set_var) j.args) (list_all is_number_var (card_vars j.card)) f in
       Every-append (GoodRight P) (arg_positions i.args j.args) (card_position i.card j.card)

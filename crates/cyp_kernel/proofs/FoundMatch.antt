@@ -26,19 +26,19 @@ use Rattle.cyp_unify.specs.declared.found.Mend.{Mend}
 
 -- ---- bindings by the map
 
-pub int_bound : (m by more : Subst) (v : Var) (b : Bool) → elim b [ true ↦ Some by | false ↦ option_map (add_int by v) (int_image m.ints v) ] ≡ Some more → Extends by more
+int_bound : (m by more : Subst) (v : Var) (b : Bool) → elim b [ true ↦ Some by | false ↦ option_map (add_int by v) (int_image m.ints v) ] ≡ Some more → Extends by more
 int_bound m by more v true e = subst (λ (x : Subst). Extends by x) (same_Some by more e) (extends_self by)
 int_bound m by more v false e =
     let a = mapped_some (add_int by v) (int_image m.ints v) more e in
     subst (λ (x : Subst). Extends by x) a.2 (record { ints = λ w t i. int_behind by.ints (record { var = v; to = a.0 } ∷ []) w t i; sets = λ w u i. i })
 
-pub set_bound : (m by more : Subst) (v : Var) (b : Bool) → elim b [ true ↦ Some by | false ↦ option_map (add_set by v) (set_image m.sets v) ] ≡ Some more → Extends by more
+set_bound : (m by more : Subst) (v : Var) (b : Bool) → elim b [ true ↦ Some by | false ↦ option_map (add_set by v) (set_image m.sets v) ] ≡ Some more → Extends by more
 set_bound m by more v true e = subst (λ (x : Subst). Extends by x) (same_Some by more e) (extends_self by)
 set_bound m by more v false e =
     let a = mapped_some (add_set by v) (set_image m.sets v) more e in
     subst (λ (x : Subst). Extends by x) a.2 (record { ints = λ w t i. i; sets = λ w u i. set_behind by.sets (record { var = v; to = a.0 } ∷ []) w u i })
 
-pub one_bound : (m by more : Subst) (v : Var) (b : Bool)
+one_bound : (m by more : Subst) (v : Var) (b : Bool)
     → elim b [
       | false ↦ elim (is_some (int_image by.ints v)) [ true ↦ Some by | false ↦ option_map (add_int by v) (int_image m.ints v) ]
       | true ↦ elim (is_some (set_image by.sets v)) [ true ↦ Some by | false ↦ option_map (add_set by v) (set_image m.sets v) ]
@@ -58,14 +58,14 @@ all_kept m by more (v ∷ vs) e =
 
 -- ---- the match
 
-pub narrow : (b : Bool) (x f : Match) → cond b None (Some x) ≡ Some f → x ≡ f
+narrow : (b : Bool) (x f : Match) → cond b None (Some x) ≡ Some f → x ≡ f
 narrow true x f e = absurd (none-some f e)
 narrow false x f e = same_Some x f e
 
 abbrev pub late_lits : Subst → List (SetTerm × SetTerm) → List Lit
 late_lits by late = map (λ (p : SetTerm × SetTerm). Same (apply_set by p.0) p.1) late
 
-pub late_true : (s : Assignment) (by : Subst) (late : List (SetTerm × SetTerm)) → AllTrue s (late_lits by late)
+late_true : (s : Assignment) (by : Subst) (late : List (SetTerm × SetTerm)) → AllTrue s (late_lits by late)
     → (p : SetTerm × SetTerm) → Among p late → SameMembers (set_value (under by s) p.0) (set_value s p.1)
 late_true s by [] a p k = absurd k
 late_true s by (q ∷ qs) a p (inl e) =
@@ -89,7 +89,7 @@ module _ (n : Node) (l : Link) (ks : List ℕ) (ps : List Position) (paired : Ar
   abbrev pub whole : Subst → Match
   whole by = record { pairs = ks; by = by; need = over.need ++ late_lits by over.late; mends = over.mends }
 
-  pub found_whole : (by : Subst) → all_bound l.map over.by (to_bind l) ≡ Some by → Found n l ks (whole by)
+  found_whole : (by : Subst) → all_bound l.map over.by (to_bind l) ≡ Some by → Found n l ks (whole by)
   found_whole by e = record {
     steps = ps;
     paired = paired;

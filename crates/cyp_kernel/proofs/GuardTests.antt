@@ -28,14 +28,14 @@ use Rattle.cyp_term.specs.declared.lit.Lit.{Lit}
 use Rattle.cyp_term.specs.declared.lit.Lit.TheVariants.{Eq, Le, Lt, Member, Ne, NotMember, NotSame, NotSub, Same, Sub}
 use Rattle.cyp_term.specs.declared.term.Term.{Term}
 
-pub decides_at : (f : ℤ → ℤ → Bool) (R : ℤ → ℤ → Type 0) → ((x y : ℤ) → Decides (f x y) (R x y)) → (x y a b : ℤ) → x ≡ a → y ≡ b → Decides (f x y) (R a b)
+decides_at : (f : ℤ → ℤ → Bool) (R : ℤ → ℤ → Type 0) → ((x y : ℤ) → Decides (f x y) (R x y)) → (x y a b : ℤ) → x ≡ a → y ≡ b → Decides (f x y) (R a b)
 decides_at f R d x y a b p q = subst (λ (z : ℤ). Decides (f x y) (R a z)) q (subst (λ (z : ℤ). Decides (f x y) (R z y)) p (d x y))
 
-pub Decides-int_lt : (a b : ℤ) → Decides (int_lt a b) (a <ℤ b)
+Decides-int_lt : (a b : ℤ) → Decides (int_lt a b) (a <ℤ b)
 Decides-int_lt a b = (λ e. omega (arith, ints), λ h. true_from_ne_false (int_lt a b) (λ e. omega (arith, ints)))
 
 module _ (names : Names) (vs : Values) (s : Assignment) (g : Goal) (named : AreNamed names vs s g.program) where
-  pub compared : (f : ℤ → ℤ → Bool) (R : ℤ → ℤ → Type 0) → ((x y : ℤ) → Decides (f x y) (R x y)) → (a b : Term) → (is_program_expr g a && is_program_expr g b) ≡ true
+  compared : (f : ℤ → ℤ → Bool) (R : ℤ → ℤ → Type 0) → ((x y : ℤ) → Decides (f x y) (R x y)) → (a b : Term) → (is_program_expr g a && is_program_expr g b) ≡ true
       → Decides (f (expr_value vs (expr_of names a)) (expr_value vs (expr_of names b))) (R (value s a) (value s b))
   compared f R d a b e =
       let both = and_parts (is_program_expr g a) (is_program_expr g b) e in
@@ -73,7 +73,7 @@ module _ (ps : List Procedure) (preds : Preds) (g : Goal) (names : Names) (s : A
   abbrev pub OnlyTrue : List Lit → ℕ → Type 0
   OnlyTrue gs i = (j : ℕ) (l : Lit) → slice_get gs j ≡ Some l → Truth s l → j ≡ i
 
-  pub after_test : (b more : Body) (t : State) → GoesRight ps preds g s h vs k b → (j : ℕ) → suc j ≤ k → more ≡ b
+  after_test : (b more : Body) (t : State) → GoesRight ps preds g s h vs k b → (j : ℕ) → suc j ≤ k → more ≡ b
       → Run ps j (body_state h vs (followed_by more End)) t → MeetsSoFar preds g s t
   after_test b more t right j le e r = right j t (less_suc j k le) (subst (λ (b : Body). Run ps j (body_state h vs b) t) (followed_by_end more ∙ e) r)
 

@@ -12,13 +12,13 @@ use Rattle.cyp_term.specs.Meaning.{Assignment}
 use Rattle.cyp_term.specs.Terms.{var_eq, var_in}
 use Rattle.cyp_term.specs.declared.term.Var.{Var}
 
-pub heads : (a b : ℤ) (xs ys : List ℤ) → a ∷ xs ≡ b ∷ ys → a ≡ b
+heads : (a b : ℤ) (xs ys : List ℤ) → a ∷ xs ≡ b ∷ ys → a ≡ b
 heads a b xs ys e = cc
 
-pub tails : (a b : ℤ) (xs ys : List ℤ) → a ∷ xs ≡ b ∷ ys → xs ≡ ys
+tails : (a b : ℤ) (xs ys : List ℤ) → a ∷ xs ≡ b ∷ ys → xs ≡ ys
 tails a b xs ys e = cc
 
-pub no_tail : (a : ℤ) (xs : List ℤ) → a ∷ xs ≡ [] → ⊥
+no_tail : (a : ℤ) (xs : List ℤ) → a ∷ xs ≡ [] → ⊥
 no_tail a xs e = cc
 
 -- the names of the old variables in order, at the new ones

@@ -38,11 +38,11 @@ apart_from exist vs h v k =
     (λ e. ap not e)
     (cases_Bool (var_in v exist))
 
-pub one_card : (o : Option Var) → is_card_var o ≡ true → list_all of_card (card_vars o) ≡ true
+one_card : (o : Option Var) → is_card_var o ≡ true → list_all of_card (card_vars o) ≡ true
 one_card None h = absurd (false≢true h)
 one_card (Some c) h = and_from (of_card c) true h refl
 
-pub no_card : (o : Option Var) → is_none o ≡ true → list_all of_card (card_vars o) ≡ true
+no_card : (o : Option Var) → is_none o ≡ true → list_all of_card (card_vars o) ≡ true
 no_card None h = refl
 no_card (Some c) h = absurd (false≢true h)
 
@@ -79,7 +79,7 @@ used_left n v k =
     ⊎_elim (parts.post v) (parts.pure_post v)
     (Among-cases v (chunks_vars n.goal.post.chunks) (lits_vars n.goal.pure_post) (in_among v later (filter_out (λ w. var_in w later) v n.goal.exist k).1))
 
-pub renamed_after : (a b : Node) (r : Renaming) → KeepsMeaning a b → KeepsRenamed b r → KeepsRenamed a r
+renamed_after : (a b : Node) (r : Renaming) → KeepsMeaning a b → KeepsRenamed b r → KeepsRenamed a r
 renamed_after a b r f g s h ns k =
     let one = f s h ns k in
     let two = g s h ns one.0 in

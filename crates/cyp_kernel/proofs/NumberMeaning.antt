@@ -33,7 +33,7 @@ use Rattle.cyp_term.specs.declared.term.Term.{Term}
 use Rattle.cyp_term.specs.declared.term.Var.{Var}
 
 -- the cardinalities among the variables of chunks that fit
-pub cards_fit : (p q : Var → Bool) (K : Var → Type 0) (cs : List Chunk) → list_all (chunk_fits p q) cs ≡ true → Each K (chunks_vars cs) → (c : Var) → Among c (cards_of cs) → (p c ≡ true) × K c
+cards_fit : (p q : Var → Bool) (K : Var → Type 0) (cs : List Chunk) → list_all (chunk_fits p q) cs ≡ true → Each K (chunks_vars cs) → (c : Var) → Among c (cards_of cs) → (p c ≡ true) × K c
 cards_fit p q K [] h e c k = absurd k
 cards_fit p q K (Inst i ∷ cs) h e c k =
     let both = and_parts (chunk_fits p q (Inst i)) (list_all (chunk_fits p q) cs) h in
@@ -47,7 +47,7 @@ cards_fit p q K (Inst i ∷ cs) h e c k =
 cards_fit p q K (Block b ∷ cs) h e c k = cards_fit p q K cs (and_parts (chunk_fits p q (Block b)) (list_all (chunk_fits p q) cs) h).1 (second K (chunk_vars (Block b)) (chunks_vars cs) e) c k
 cards_fit p q K (Cell d ∷ cs) h e c k = cards_fit p q K cs (and_parts (chunk_fits p q (Cell d)) (list_all (chunk_fits p q) cs) h).1 (second K (chunk_vars (Cell d)) (chunks_vars cs) e) c k
 
-pub plus_zero : (x : ℤ) → x +ℤ pos 0 ≡ x
+plus_zero : (x : ℤ) → x +ℤ pos 0 ≡ x
 plus_zero x = omega (arith, ints)
 
 module _ (vs : List Var) where
@@ -61,7 +61,7 @@ module _ (vs : List Var) where
   abbrev pub In : Var → Type 0
   In v = Among v vs
 
-  pub new_apart : (v w : Var) → In v → In w → new v ≡ new w → v ≡ w
+  new_apart : (v w : Var) → In v → In w → new v ≡ new w → v ≡ w
   new_apart v w i j e =
       let is : IsRenaming (name_in vs) = IsRenaming-name_in vs in
       (Decides-var_eq v w).0 (sym (is.apart v w) ∙ (Decides-var_eq (name_in vs v) (name_in vs w)).1 (sym (name_in-new vs v i) ∙ e ∙ name_in-new vs w j))
@@ -73,7 +73,7 @@ module _ (vs : List Var) where
   old_in [] w = w
   old_in (v ∷ us) w = cond (var_eq (new v) w) v (old_in us w)
 
-  pub old_of_new : (us : List Var) → ((v : Var) → Among v us → In v) → (v : Var) → Among v us → old_in us (new v) ≡ v
+  old_of_new : (us : List Var) → ((v : Var) → Among v us → In v) → (v : Var) → Among v us → old_in us (new v) ≡ v
   old_of_new [] h v k = absurd k
   old_of_new (u ∷ us) h v k =
       cond_both (var_eq (new u) (new v)) u (old_in us (new v)) (λ x. x ≡ v)
@@ -84,7 +84,7 @@ module _ (vs : List Var) where
       rest e (inl i) = absurd (both_ways (var_eq (new u) (new v)) e ((Decides-var_eq (new u) (new v)).1 (ap new (sym i))))
       rest e (inr m) = m
 
-  pub old_new : (v : Var) → In v → old_in vs (new v) ≡ v
+  old_new : (v : Var) → In v → old_in vs (new v) ≡ v
   old_new v k = old_of_new vs (λ w m. m) v k
 
   -- ---- images
@@ -133,10 +133,10 @@ module _ (vs : List Var) where
     members = λ v. cond (var_in v vs) (t.members (new v)) (s.members v);
   }
 
-  pub old_number : (s t : Assignment) (v : Var) → In v → (for_old s t).number v ≡ t.number (new v)
+  old_number : (s t : Assignment) (v : Var) → In v → (for_old s t).number v ≡ t.number (new v)
   old_number s t v k = cond-true (var_in v vs) (t.number (new v)) (s.number v) (among_in v vs k)
 
-  pub old_members : (s t : Assignment) (v : Var) → In v → (for_old s t).members v ≡ t.members (new v)
+  old_members : (s t : Assignment) (v : Var) → In v → (for_old s t).members v ≡ t.members (new v)
   old_members s t v k = cond-true (var_in v vs) (t.members (new v)) (s.members v) (among_in v vs k)
 
   module _ (exist : List Var) (used : Each In exist) where
@@ -146,7 +146,7 @@ module _ (vs : List Var) where
         both_ways (var_in v exist) out (among_in v exist (subst (λ (w : Var). Among w exist) (sym (new_apart v m.0 k (used m.0 m.1) m.2)) m.1)))
 
   module _ (exist : List Var) (used : Each In exist) (s t : Assignment) (beside : AgreeBeside (map new exist) (for_new s) t) where
-    pub back_beside : AgreeBeside exist s (for_old s t)
+    back_beside : AgreeBeside exist s (for_old s t)
     back_beside v out = ⊎_elim named unnamed (cases_Bool (var_in v vs))
       where
         named : var_in v vs ≡ true → AgreeBy v.sort s (for_old s t) v

@@ -74,7 +74,7 @@ module _ (n : Node) (steady : IsSteady n) (s : Assignment) (h : Store) (ns : Lis
   abbrev pub taken_values : Assignment
   taken_values = put_numbers s (new_int n).number (a ∷ zs)
 
-  pub base_value_is : value taken_values (var_term (new_int n)) ≡ a
+  base_value_is : value taken_values (var_term (new_int n)) ≡ a
   base_value_is = plus-zero (taken_values.number (new_int n)) ∙ (numbers_are s (new_int n).number (a ∷ zs)).0
 
   pub kept_side : SideHolds n.preds taken_values n.goal.pure_pre (pre_of n) h ns
@@ -83,7 +83,7 @@ module _ (n : Node) (steady : IsSteady n) (s : Assignment) (h : Store) (ns : Lis
       let parts = put_new n s (a ∷ zs) in
       side_by_vars s taken_values n.preds n.goal.pure_pre (pre_of n) h ns sorted.pure_pre sorted.pre parts.pure_pre parts.pre pre
 
-  pub block_in : AllHold inst taken_values (put (pre_of n) (Block (record { at = var_term (new_int n); size = length zs }))) (record { cells = h.cells; blocks = insert h.blocks a (length zs) })
+  block_in : AllHold inst taken_values (put (pre_of n) (Block (record { at = var_term (new_int n); size = length zs }))) (record { cells = h.cells; blocks = insert h.blocks a (length zs) })
   block_in =
       let one : Store = record { cells = empty; blocks = insert empty a (length zs) } in
       let back = sym base_value_is in
@@ -104,7 +104,7 @@ module _ (n : Node) (steady : IsSteady n) (s : Assignment) (h : Store) (ns : Lis
       block_in
 
 -- what the premise's body does after the allocation is right for the node
-pub after_alloc : (ps : List Procedure) (n : Node) (f : BlockValue) (names : Names) (next k : ℕ) (b : Body) → IsSteady n → IsNaming names n.goal.program next
+after_alloc : (ps : List Procedure) (n : Node) (f : BlockValue) (names : Names) (next k : ℕ) (b : Body) → IsSteady n → IsNaming names n.goal.program next
     → BodyMeets ps n.preds (alloc_node n f).goal (names ++ (new_int n, next) ∷ []) k b
     → (s : Assignment) (h : Store) (ns : List ℕ) (vs : Values) → SideHolds n.preds s n.goal.pure_pre n.goal.pre.chunks h ns → AreNamed names vs s n.goal.program
     → (a : ℤ) (zs : List ℤ) → length zs ≡ f.size → IsFree h a f.size

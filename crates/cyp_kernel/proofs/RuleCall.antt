@@ -52,7 +52,7 @@ pub record Called (n : Node) (ks : List ℕ) (o : Option Link) (ms : List Node) 
   pub passes : is_callable n link found_match ≡ true
   pub premises : ms ≡ after_call n link found_match ∷ []
 
-pub allowed : (b : Bool) (x ms : List Node) → ◌≡◌ {A = Option (List Node)} (elim b [ false ↦ None | true ↦ Some x ]) (Some ms) → (b ≡ true) × (ms ≡ x)
+allowed : (b : Bool) (x ms : List Node) → ◌≡◌ {A = Option (List Node)} (elim b [ false ↦ None | true ↦ Some x ]) (Some ms) → (b ≡ true) × (ms ≡ x)
 allowed true x ms e = (refl, sym (same_Some x ms e))
 allowed false x ms e = absurd (none-some ms e)
 
@@ -82,7 +82,7 @@ module _ (ps : List Procedure) (n : Node) (steady : IsSteady n) (i : ℕ) (l : L
   args = map (λ v. expr_of names (apply_term f.by (var_term v))) l.goal.program
 
   -- what follows the call goes right
-  pub follows : (rest : Store) → AllHold inst s (chunks_beside 0 ks (pre_of n)) rest → (g large : Store) → MeetsPost n.preds l.goal u g → IsUnion large g rest
+  follows : (rest : Store) → AllHold inst s (chunks_beside 0 ks (pre_of n)) rest → (g large : Store) → MeetsPost n.preds l.goal u g → IsUnion large g rest
       → GoesRight ps n.preds n.goal s large vs k b
   follows rest others g large post union m t le r =
       let ms : List ℕ = post.1 in
@@ -97,7 +97,7 @@ module _ (ps : List Procedure) (n : Node) (steady : IsSteady n) (i : ℕ) (l : L
       same_post n.preds (after_call n l f).goal n.goal w s t (met_by_others n.preds n.goal s w t.store sorted.pure_post sorted.post kept.pure_post kept.post)
       (premise w large side.0 vs side' (λ v e. named v e ∙ program_kept n steady i l at inner free ks f match s post.0 ms post.2 v e) m t le r)
 
-  pub goes_right : GoesRight ps n.preds n.goal s h vs k (stores n names made (Then (Invoking p args) b))
+  goes_right : GoesRight ps n.preds n.goal s h vs k (stores n names made (Then (Invoking p args) b))
   goes_right =
       stores_right inst ps n n.goal names s vs k (Then (Invoking p args) b) named made (stores_writable n steady l inner ks f match calls s h ns pre) (pre_of n) h (λ j. refl) (ns, pre.1, pre.2)
       (λ large all.

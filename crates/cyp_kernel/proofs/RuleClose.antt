@@ -70,7 +70,7 @@ module _ (x : Next) (o : Sort) where
       apart j a l m = omega arith
 
 -- a postcondition met with more existentials, which are new, is met with those that there were
-pub fewer_exist : (preds : Preds) (g : Goal) (s t : Assignment) (own : List Var) (h : Store) (ns : List ℕ) → list_all lit_sorted g.pure_post ≡ true → list_all chunk_sorted g.post.chunks ≡ true
+fewer_exist : (preds : Preds) (g : Goal) (s t : Assignment) (own : List Var) (h : Store) (ns : List ℕ) → list_all lit_sorted g.pure_post ≡ true → list_all chunk_sorted g.post.chunks ≡ true
     → Each (λ v. var_in v own ≡ false) (lits_vars g.pure_post) → Each (λ v. var_in v own ≡ false) (chunks_vars g.post.chunks)
     → AgreeBeside (g.exist ++ own) s t → SideHolds preds t g.pure_post g.post.chunks h ns → MeetsPost preds g s h
 fewer_exist preds g s t own h ns lits chunks a b beside k =

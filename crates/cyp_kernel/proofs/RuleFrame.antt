@@ -42,18 +42,18 @@ pub head_out : {A : Type 0} (xs : List A) (x : A) → slice_get xs 0 ≡ Some x 
 head_out [] x e = absurd (none-some x e)
 head_out (y ∷ xs) x e = ap (λ z. z ∷ xs) (sym (same_Some y x e))
 
-pub pre_fits : (preds : Preds) (c : Chunk) → FitsPre preds c → InstFits preds c
+pre_fits : (preds : Preds) (c : Chunk) → FitsPre preds c → InstFits preds c
 pre_fits preds (Inst i) h = h.0
 pre_fits preds (Block b) h = tt
 pre_fits preds (Cell c) h = tt
 
-pub post_fits : (preds : Preds) (c : Chunk) → FitsPost preds c → InstFits preds c
+post_fits : (preds : Preds) (c : Chunk) → FitsPost preds c → InstFits preds c
 post_fits preds (Inst i) h = h.0
 post_fits preds (Block b) h = tt
 post_fits preds (Cell c) h = tt
 
 -- a chunk's heap without its cardinality, and with the cardinality that it doesn't have
-pub bare : (inst : Instances) (s : Assignment) (c : Chunk) (a : Store) → OneAt inst s c a → OneHolds inst s c a
+bare : (inst : Instances) (s : Assignment) (c : Chunk) (a : Store) → OneAt inst s c a → OneHolds inst s c a
 bare inst s (Inst i) a o = (o.0, o.1)
 bare inst s (Block b) a o = o
 bare inst s (Cell c) a o = o
@@ -62,12 +62,12 @@ pub no_card : (t : Assignment) (c : Option Var) (m : ℕ) → is_none c ≡ true
 no_card t None m e = tt
 no_card t (Some v) m e = absurd (false≢true e)
 
-pub uncarded : (preds : Preds) (inst : Instances) (s : Assignment) (c : Chunk) (a : Store) → FitsPost preds c → OneHolds inst s c a → OneAt inst s c a
+uncarded : (preds : Preds) (inst : Instances) (s : Assignment) (c : Chunk) (a : Store) → FitsPost preds c → OneHolds inst s c a → OneAt inst s c a
 uncarded preds inst s (Inst i) a h o = (o.0, o.1, no_card s i.card o.0 h.1)
 uncarded preds inst s (Block b) a h o = o
 uncarded preds inst s (Cell c) a h o = o
 
-pub frames_same : (x y : State) → y.frames ≡ x.frames → has_ended y ≡ true → has_ended x ≡ true
+frames_same : (x y : State) → y.frames ≡ x.frames → has_ended y ≡ true → has_ended x ≡ true
 frames_same x y e h = ap frames_ended (sym e) ∙ h
 
 abbrev pub framed_node : Node → ℕ → Pair → Node

@@ -75,7 +75,7 @@ all_mapped f p [] h = refl
 all_mapped f p (x ∷ xs) h = let both = and_parts (p (f x)) (list_all (λ y. p (f y)) xs) h in and_from (p (f x)) (list_all p (map f xs)) both.0 (all_mapped f p xs both.1)
 
 -- the premise at a place and its body
-pub meets_at : (ps : List Procedure) (names : Names) (k : ℕ) (ms : List Node) (bs : List Body) (i : ℕ) (m : Node) → AllMeet ps names k ms bs → slice_get ms i ≡ Some m
+meets_at : (ps : List Procedure) (names : Names) (k : ℕ) (ms : List Node) (bs : List Body) (i : ℕ) (m : Node) → AllMeet ps names k ms bs → slice_get ms i ≡ Some m
     → (b : Body) × (slice_get bs i ≡ Some b) × BodyMeets ps m.preds m.goal names k b
 meets_at ps names k [] bs i m a e = absurd (none-some m e)
 meets_at ps names k (x ∷ ms) [] i m a e = absurd a

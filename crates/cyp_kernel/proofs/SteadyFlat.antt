@@ -59,7 +59,7 @@ differ_join (x ∷ xs) ys a b e =
     (ap not (list_any-append (var_eq x) xs ys ∙ or_from (var_in x xs) (var_in x ys) (not-true (var_in x xs) both.0) (e x (inl refl))))
     (differ_join xs ys both.1 b (λ v k. e v (inr k)))
 
-pub int_join : (xs ys : List Var) → list_all (λ (v : Var). sort_eq v.sort Int) xs ≡ true → list_all (λ (v : Var). sort_eq v.sort Int) ys ≡ true
+int_join : (xs ys : List Var) → list_all (λ (v : Var). sort_eq v.sort Int) xs ≡ true → list_all (λ (v : Var). sort_eq v.sort Int) ys ≡ true
     → list_all (λ (v : Var). sort_eq v.sort Int) (xs ++ ys) ≡ true
 int_join [] ys a b = b
 int_join (x ∷ xs) ys a b =
@@ -72,7 +72,7 @@ TermClear exist t = (term_fits is_number_var t ≡ true) × Each (Clear exist) (
 
 -- ---- literals of a frame
 
-pub args_sorted : (xs ys : List Arg) → list_all (arg_fits is_number_var is_set_var) xs ≡ true → list_all (arg_fits is_number_var is_set_var) ys ≡ true
+args_sorted : (xs ys : List Arg) → list_all (arg_fits is_number_var is_set_var) xs ≡ true → list_all (arg_fits is_number_var is_set_var) ys ≡ true
     → AllByRecursion LitSorted (arg_equalities xs ys)
 args_sorted [] ys a b = tt
 args_sorted (x ∷ xs) [] a b = tt
@@ -86,7 +86,7 @@ args_sorted (x ∷ xs) (y ∷ ys) a b =
     one (SetArg u) (SetArg r) h k = (and_from (set_fits is_number_var is_set_var u) (set_fits is_number_var is_set_var r) h k, tt)
     one _ _ h k = tt
 
-pub frame_sorted : (f c : Chunk) → ChunkSorted f → ChunkSorted c → AllByRecursion LitSorted (frame_lits f c)
+frame_sorted : (f c : Chunk) → ChunkSorted f → ChunkSorted c → AllByRecursion LitSorted (frame_lits f c)
 frame_sorted (Inst i) (Inst j) a b = args_sorted i.args j.args (and_parts _ _ a).0 (and_parts _ _ b).0
 frame_sorted (Block x) (Block y) a b = (and_from (term_fits is_number_var x.at) (term_fits is_number_var y.at) a b, tt)
 frame_sorted (Cell x) (Cell y) a b =
@@ -104,7 +104,7 @@ cells_kept P (t ∷ ts) cs h =
 
 -- ---- an existential taken to be a variable
 
-pub equal_sorted : (v u : Var) → sort_eq u.sort v.sort ≡ true → LitSorted (equal_vars v u)
+equal_sorted : (v u : Var) → sort_eq u.sort v.sort ≡ true → LitSorted (equal_vars v u)
 equal_sorted v u e =
     let same : u.sort ≡ v.sort = (Decides-sort_eq u.sort v.sort).0 e in
     cond_both (is_set_var v) (Same _ _) (Eq (var_term v) (var_term u)) LitSorted
@@ -121,17 +121,17 @@ module _ (n : Node) (w : IsSteadyNode n) where
   pub same_program : ProgramRight exist n.goal.program
   same_program = record { int = s.program_int; differs = s.program_differs; clear = s.program }
 
-  pub one_new : (k : ℕ) → first_new n ≤ k → Each (Clear exist) (int_var k ∷ [])
+  one_new : (k : ℕ) → first_new n ≤ k → Each (Clear exist) (int_var k ∷ [])
   one_new k l v (inl e) = subst (Clear exist) (sym e) (new_clear n w k l)
   one_new k l v (inr m) = absurd m
 
-  pub self : (m : ℕ) → m ≤ m
+  self : (m : ℕ) → m ≤ m
   self m = omega arith
 
-  pub up : (m k : ℕ) → m ≤ k → m ≤ suc k
+  up : (m k : ℕ) → m ≤ k → m ≤ suc k
   up m k l = omega arith
 
-  pub with_new : ProgramRight exist (n.goal.program ++ new_int n ∷ [])
+  with_new : ProgramRight exist (n.goal.program ++ new_int n ∷ [])
   with_new = record {
     int = int_join n.goal.program (new_int n ∷ []) s.program_int refl;
     differs = differ_join n.goal.program (new_int n ∷ []) s.program_differs refl (λ v k. false_from_ne_true (var_in v (new_int n ∷ [])) (λ e. among_new v (old_parts n).program v k (in_among v (new_int n ∷ []) e)));
@@ -167,11 +167,11 @@ module _ (n : Node) (w : IsSteadyNode n) where
   pub lits_and : (ls : List Lit) → AllByRecursion (LitClear exist) ls → AllByRecursion (LitClear exist) (n.goal.pure_pre ++ ls)
   lits_and ls h = Every-append (LitClear exist) n.goal.pure_pre ls s.pure_pre h
 
-  pub post_and : (ls : List Lit) → AllByRecursion LitSorted ls → AllByRecursion LitSorted (n.goal.pure_post ++ ls)
+  post_and : (ls : List Lit) → AllByRecursion LitSorted ls → AllByRecursion LitSorted (n.goal.pure_post ++ ls)
   post_and ls h = Every-append LitSorted n.goal.pure_post ls s.pure_post h
 
   -- a program expression has no existential
-  pub program_clear : (b : Option Var) → is_program_base n.goal b ≡ true → Each (Clear exist) (base_vars b)
+  program_clear : (b : Option Var) → is_program_base n.goal b ≡ true → Each (Clear exist) (base_vars b)
   program_clear None h v k = absurd k
   program_clear (Some u) h v (inl e) = s.program v (in_among v n.goal.program (subst (λ (x : Var). var_in x n.goal.program ≡ true) (sym e) h))
   program_clear (Some u) h v (inr k) = absurd k
@@ -239,11 +239,11 @@ module _ (n : Node) (w : IsSteadyNode n) where
       (λ e. rw (e, raw_free) tt)
   free_steady i _ = tt
 
-  pub new_terms : (a m : ℕ) → first_new n ≤ a → AllByRecursion (TermClear exist) (map var_term (new_ints a m))
+  new_terms : (a m : ℕ) → first_new n ≤ a → AllByRecursion (TermClear exist) (map var_term (new_ints a m))
   new_terms a zero l = tt
   new_terms a (suc m) l = ((refl, one_new a l), new_terms (suc a) m (up (first_new n) a l))
 
-  pub cells_clear : (t : Term) (j : ℕ) (vs : List Term) → TermClear exist t → AllByRecursion (TermClear exist) vs → AllByRecursion (ChunkClear exist) (new_cells t j vs)
+  cells_clear : (t : Term) (j : ℕ) (vs : List Term) → TermClear exist t → AllByRecursion (TermClear exist) vs → AllByRecursion (ChunkClear exist) (new_cells t j vs)
   cells_clear t j [] a h = tt
   cells_clear t j (v ∷ vs) a h = (
     (and_from (term_fits is_number_var t) (term_fits is_number_var v) a.0 h.0.0, joined (Clear exist) (term_vars t) (term_vars v) a.1 h.0.1),

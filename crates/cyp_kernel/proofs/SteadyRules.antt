@@ -61,7 +61,7 @@ formed_clauses_fit preds f =
 
 -- ---- before the normal form
 
-pub steady_each : (n : Node) → IsFormedPreds n.preds → (ms : List Node) → AllByRecursion (IsLeft n) ms → AllByRecursion IsSettled ms → AllByRecursion (IsOver n.preds IsSteadyRaw) ms
+steady_each : (n : Node) → IsFormedPreds n.preds → (ms : List Node) → AllByRecursion (IsLeft n) ms → AllByRecursion IsSettled ms → AllByRecursion (IsOver n.preds IsSteadyRaw) ms
 steady_each n f [] a b = tt
 steady_each n f (m ∷ ms) a b = (
   record {
@@ -72,14 +72,14 @@ steady_each n f (m ∷ ms) a b = (
 )
 
 -- each companion of a steady node
-pub companions_right : (n : Node) → IsSteadyNode n → AllByRecursion (CompanionRight n) n.links
+companions_right : (n : Node) → IsSteadyNode n → AllByRecursion (CompanionRight n) n.links
 companions_right n w =
     Every-from_among (CompanionRight n) n.links (λ l i. record {
       clear = Every-among (LinkClear n.goal.exist) l n.links (settled_node n w).links i;
       steady = Every-among (CompanionSteady n.preds) l n.links (settled_node n w).companions i;
     })
 
-pub raws_settled : (n : Node) → IsFormedPreds n.preds → IsSteadyNode n → (r : Rule) → AreSettled (raws n r)
+raws_settled : (n : Node) → IsFormedPreds n.preds → IsSteadyNode n → (r : Rule) → AreSettled (raws n r)
 raws_settled n f w ByInconsistent = by_test (satisfiable (facts n.goal)) (λ e. rw (e, raws) tt) (λ e. rw (e, raws) tt)
 raws_settled n f w ByEmp =
     by_test (length (pre_of n) == 0 && length (post_of n) == 0 && length n.goal.exist == 0)
@@ -105,7 +105,7 @@ leaves_steady n r ms f w e =
 -- ---- the premises
 
 -- the normal form leaves the companions' goals
-pub companions_kept : IsKept CompanionsSteady
+companions_kept : IsKept CompanionsSteady
 companions_kept = record {
   applied = λ by k n h. same_goals n.preds (apply_link by) (λ l. refl) n.links h;
   beside = λ n g e f h. h;
@@ -116,18 +116,18 @@ companions_kept = record {
     same_goals preds f e [] h = tt
     same_goals preds f e (l ∷ ls) h = (subst (λ (g : Goal). IsSteady (unlinked preds g)) (sym (e l)) h.0, same_goals preds f e ls h.1)
 
-pub normal_companions : (n : Node) (r : Renaming) → CompanionsSteady n → normal n ≡ Some r → CompanionsSteady r.node
+normal_companions : (n : Node) (r : Renaming) → CompanionsSteady n → normal n ≡ Some r → CompanionsSteady r.node
 normal_companions n r h e =
     let k : IsKeptWithin CompanionsSteady r = subst (λ (o : Option Renaming). IfSome o (IsKeptWithin CompanionsSteady)) e (normal_kept CompanionsSteady companions_kept n h) in
     k.fact
 
 -- nor does it give a companion's existential an image
-pub normal_companions_free : (n : Node) (r : Renaming) → CompanionsFree n → normal n ≡ Some r → CompanionsFree r.node
+normal_companions_free : (n : Node) (r : Renaming) → CompanionsFree n → normal n ≡ Some r → CompanionsFree r.node
 normal_companions_free n r h e =
     let k : IsKeptWithin CompanionsFree r = subst (λ (o : Option Renaming). IfSome o (IsKeptWithin CompanionsFree)) e (normal_free n h) in
     k.fact
 
-pub premises_each : (preds : Preds) (ms : List Node) (rs : List Renaming) → AllByRecursion (IsOver preds IsSteadyRaw) ms → AllByRecursion CompanionsFree ms → all_normal ms ≡ Some rs
+premises_each : (preds : Preds) (ms : List Node) (rs : List Renaming) → AllByRecursion (IsOver preds IsSteadyRaw) ms → AllByRecursion CompanionsFree ms → all_normal ms ≡ Some rs
     → AllByRecursion (IsOver preds IsNode) (nodes_of rs) → AllByRecursion (IsOver preds IsSteadyNode) (nodes_of rs)
 premises_each preds [] rs h free e k = subst (λ (xs : List Renaming). AllByRecursion (IsOver preds IsSteadyNode) (nodes_of xs)) (same_Some [] rs e) tt
 premises_each preds (m ∷ ms) rs h free e k =

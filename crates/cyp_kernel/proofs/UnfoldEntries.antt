@@ -32,7 +32,7 @@ pub record ClauseRight (c : Clause) : Type 0 where
   pub plain : AllByRecursion ChunkPlain c.heap.chunks
   pub closed : is_closed c ≡ true
 
-pub chunks_plain : (preds : Preds) (cs : List Chunk) → list_all (λ (i : InstOf). inst_fits preds i && is_none i.card && (i.tag == 0)) (insts cs) ≡ true → AllByRecursion ChunkPlain cs
+chunks_plain : (preds : Preds) (cs : List Chunk) → list_all (λ (i : InstOf). inst_fits preds i && is_none i.card && (i.tag == 0)) (insts cs) ≡ true → AllByRecursion ChunkPlain cs
 chunks_plain preds [] h = tt
 chunks_plain preds (Inst i ∷ cs) h =
     let both = and_parts (inst_fits preds i && is_none i.card && (i.tag == 0)) (list_all (λ (i : InstOf). inst_fits preds i && is_none i.card && (i.tag == 0)) (insts cs)) h in
@@ -58,15 +58,15 @@ clauses_right preds f k = of_pred (slice_get preds.list k) refl
 
 module _ (K : Var → Type 0) (j : InstOf) (next : Next) (new : NewHave K next) (args : AllByRecursion (ArgHas K) j.args)
     (card_sorted : list_all is_number_var (card_vars j.card) ≡ true) (card_has : Each K (card_vars j.card)) where
-  pub new_card_sorted : (o : Option Var) (k : ℕ) → list_all is_number_var (card_vars (new_card o k)) ≡ true
+  new_card_sorted : (o : Option Var) (k : ℕ) → list_all is_number_var (card_vars (new_card o k)) ≡ true
   new_card_sorted None k = refl
   new_card_sorted (Some a) k = refl
 
-  pub new_card_has : (o : Option Var) (k : ℕ) → next.cards ≤ k → Each K (card_vars (new_card o k))
+  new_card_has : (o : Option Var) (k : ℕ) → next.cards ≤ k → Each K (card_vars (new_card o k))
   new_card_has None k l v m = absurd m
   new_card_has (Some a) k l v m = one_var K (card_var k) (new.cards k l) v m
 
-  pub tags_have : (tag k : ℕ) (cs : List Chunk) → next.cards ≤ k → AllByRecursion (ChunkHas K) cs → AllByRecursion (ChunkHas K) (with_tags j.card tag k cs)
+  tags_have : (tag k : ℕ) (cs : List Chunk) → next.cards ≤ k → AllByRecursion (ChunkHas K) cs → AllByRecursion (ChunkHas K) (with_tags j.card tag k cs)
   tags_have tag k [] l h = tt
   tags_have tag k (Inst i ∷ cs) l h = (
     (
@@ -79,13 +79,13 @@ module _ (K : Var → Type 0) (j : InstOf) (next : Next) (new : NewHave K next) 
   tags_have tag k (Block b ∷ cs) l h = (h.0, tags_have tag k cs l h.1)
   tags_have tag k (Cell c ∷ cs) l h = (h.0, tags_have tag k cs l h.1)
 
-  pub below_has : (o : Option Var) → list_all is_number_var (card_vars o) ≡ true → Each K (card_vars o) → (k m : ℕ) → next.cards ≤ k → AllByRecursion (LitHas K) (below_card o (count_from k m))
+  below_has : (o : Option Var) → list_all is_number_var (card_vars o) ≡ true → Each K (card_vars o) → (k m : ℕ) → next.cards ≤ k → AllByRecursion (LitHas K) (below_card o (count_from k m))
   below_has None h e k m l = tt
   below_has (Some a) h e k zero l = tt
   below_has (Some a) h e k (suc m) l =
       ((h, joined K (card_var k ∷ []) (a ∷ []) (one_var K (card_var k) (new.cards k l)) e), below_has (Some a) h e (suc k) m (up next.cards k l))
 
-  pub entry_has : (c : Clause) → ClauseRight c → UnfoldedHas K (unfold_clause j next c)
+  entry_has : (c : Clause) → ClauseRight c → UnfoldedHas K (unfold_clause j next c)
   entry_has c r =
       let by : Subst = clause_subst j.args c next in
       let here : ClauseFits is_number_var is_set_var c = sorted K j next new args c r.plain r.closed in
@@ -110,7 +110,7 @@ module _ (K : Var → Type 0) (j : InstOf) (next : Next) (new : NewHave K next) 
             (chunk_has K j next new args c r.plain r.closed x.0 (Every-among ChunkPlain x.0 c.heap.chunks r.plain x.1) (each_at _ x.0 c.heap.chunks here.chunks x.1) (each_at _ x.0 c.heap.chunks counted.chunks x.1))));
       }
 
-  pub each_entry : (cs : List Clause) → AllByRecursion ClauseRight cs → AllByRecursion (UnfoldedHas K) (map (unfold_clause j next) cs)
+  each_entry : (cs : List Clause) → AllByRecursion ClauseRight cs → AllByRecursion (UnfoldedHas K) (map (unfold_clause j next) cs)
   each_entry [] h = tt
   each_entry (c ∷ cs) h = (entry_has c h.0, each_entry cs h.1)
 

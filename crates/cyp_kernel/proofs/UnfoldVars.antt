@@ -58,21 +58,21 @@ module _ (p q : Var → Bool) where
   abbrev pub VarsPass : List Var → Type 0
   VarsPass vs = (v : Var) → Among v vs → q v ≡ true
 
-  pub set_from_terms : (u : SetTerm) → TermsPass u.elems → VarsPass u.vars → set_fits p q u ≡ true
+  set_from_terms : (u : SetTerm) → TermsPass u.elems → VarsPass u.vars → set_fits p q u ≡ true
   set_from_terms u a b = and_from (list_all q u.vars) (list_all (term_fits p) u.elems) (each_from q u.vars b) (each_from (term_fits p) u.elems a)
 
-  pub two_terms : (a b : Term) → TermsPass (a ∷ b ∷ []) → (term_fits p a && term_fits p b) ≡ true
+  two_terms : (a b : Term) → TermsPass (a ∷ b ∷ []) → (term_fits p a && term_fits p b) ≡ true
   two_terms a b h = and_from (term_fits p a) (term_fits p b) (h a (inl refl)) (h b (inr (inl refl)))
 
-  pub two_sets : (a b : SetTerm) → TermsPass (a.elems ++ b.elems) → VarsPass (a.vars ++ b.vars) → (set_fits p q a && set_fits p q b) ≡ true
+  two_sets : (a b : SetTerm) → TermsPass (a.elems ++ b.elems) → VarsPass (a.vars ++ b.vars) → (set_fits p q a && set_fits p q b) ≡ true
   two_sets a b h k =
       and_from (set_fits p q a) (set_fits p q b) (set_from_terms a (λ t m. h t (Among-left t a.elems b.elems m)) (λ v m. k v (Among-left v a.vars b.vars m)))
       (set_from_terms b (λ t m. h t (Among-right t a.elems b.elems m)) (λ v m. k v (Among-right v a.vars b.vars m)))
 
-  pub term_and_set : (a : Term) (b : SetTerm) → TermsPass (a ∷ b.elems) → VarsPass b.vars → (term_fits p a && set_fits p q b) ≡ true
+  term_and_set : (a : Term) (b : SetTerm) → TermsPass (a ∷ b.elems) → VarsPass b.vars → (term_fits p a && set_fits p q b) ≡ true
   term_and_set a b h k = and_from (term_fits p a) (set_fits p q b) (h a (inl refl)) (set_from_terms b (λ t m. h t (inr m)) k)
 
-  pub lit_from_terms : (l : Lit) → TermsPass (lit_terms l) → VarsPass (lit_set_vars l) → lit_fits p q l ≡ true
+  lit_from_terms : (l : Lit) → TermsPass (lit_terms l) → VarsPass (lit_set_vars l) → lit_fits p q l ≡ true
   lit_from_terms (Eq a b) h k = two_terms a b h
   lit_from_terms (Ne a b) h k = two_terms a b h
   lit_from_terms (Le a b) h k = two_terms a b h
@@ -84,11 +84,11 @@ module _ (p q : Var → Bool) where
   lit_from_terms (Sub a b) h k = two_sets a b h k
   lit_from_terms (NotSub a b) h k = two_sets a b h k
 
-  pub arg_from_terms : (a : Arg) → TermsPass (arg_terms a) → VarsPass (arg_set_vars a) → arg_fits p q a ≡ true
+  arg_from_terms : (a : Arg) → TermsPass (arg_terms a) → VarsPass (arg_set_vars a) → arg_fits p q a ≡ true
   arg_from_terms (IntArg t) h k = h t (inl refl)
   arg_from_terms (SetArg u) h k = set_from_terms u h k
 
-  pub chunk_from_terms : (c : Chunk) → ChunkPlain c → TermsPass (chunk_terms c) → VarsPass (chunk_set_vars c) → chunk_fits p q c ≡ true
+  chunk_from_terms : (c : Chunk) → ChunkPlain c → TermsPass (chunk_terms c) → VarsPass (chunk_set_vars c) → chunk_fits p q c ≡ true
   chunk_from_terms (Inst i) e h k =
       and_from (list_all (arg_fits p q) i.args) (list_all p (card_vars i.card))
       (each_from (arg_fits p q) i.args (λ a m. arg_from_terms a (λ t j. h t (flat_in arg_terms t a i.args m j)) (λ v j. k v (flat_in arg_set_vars v a i.args m j))))
@@ -106,7 +106,7 @@ module _ (p q : Var → Bool) where
     pub lits : list_all (lit_fits p q) c.lits ≡ true
     pub chunks : list_all (chunk_fits p q) c.heap.chunks ≡ true
 
-  pub clause_from_terms : (c : Clause) → AllByRecursion ChunkPlain c.heap.chunks → TermsPass (clause_terms c) → VarsPass (clause_set_vars c) → ClauseFits c
+  clause_from_terms : (c : Clause) → AllByRecursion ChunkPlain c.heap.chunks → TermsPass (clause_terms c) → VarsPass (clause_set_vars c) → ClauseFits c
   clause_from_terms c plain h k =
       let guard : List Term = lit_terms c.guard in
       let lits : List Term = flat_map lit_terms c.lits in
@@ -147,10 +147,10 @@ set_image_among a (u ∷ us) v to e =
     cond_both (var_eq (set_numbered a) v) (Some u) (set_image (bind_sets (suc a) us) v) (λ o. o ≡ Some to → Among to (u ∷ us))
     (λ _ d. inl (sym (same_Some u to d))) (λ _ d. inr (set_image_among (suc a) us v to d)) e
 
-pub not_here : (a k n : ℕ) → a ≤ k → k < a + zero → ⊥
+not_here : (a k n : ℕ) → a ≤ k → k < a + zero → ⊥
 not_here a k n l h = omega arith
 
-pub int_there : (a k : ℕ) (ts : List Term) → a ≤ k → k < a + length ts → (t : Term) × Among t ts × (int_image (bind_ints a ts) (int_var k) ≡ Some t)
+int_there : (a k : ℕ) (ts : List Term) → a ≤ k → k < a + length ts → (t : Term) × Among t ts × (int_image (bind_ints a ts) (int_var k) ≡ Some t)
 int_there a k [] l h = absurd (not_here a k k l h)
 int_there a k (t ∷ ts) l h = at (var_eq (int_var a) (int_var k)) refl (λ i j. int_there (suc a) k ts i j)
   where
@@ -163,7 +163,7 @@ int_there a k (t ∷ ts) l h = at (var_eq (int_var a) (int_var k)) refl (λ i j.
         let m = later a k (length ts) (λ d. false≢true (sym e ∙ (Decides-var_eq (int_var a) (int_var k)).1 (ap int_var d))) l h in
         let r = more m.0 m.1 in (r.0, inr r.1, r.2)
 
-pub set_there : (a k : ℕ) (us : List SetTerm) → a ≤ k → k < a + length us → (u : SetTerm) × Among u us × (set_image (bind_sets a us) (set_numbered k) ≡ Some u)
+set_there : (a k : ℕ) (us : List SetTerm) → a ≤ k → k < a + length us → (u : SetTerm) × Among u us × (set_image (bind_sets a us) (set_numbered k) ≡ Some u)
 set_there a k [] l h = absurd (not_here a k k l h)
 set_there a k (u ∷ us) l h = at (var_eq (set_numbered a) (set_numbered k)) refl (λ i j. set_there (suc a) k us i j)
   where
@@ -205,12 +205,12 @@ module _ (K : Var → Type 0) where
     pub sets : (k : ℕ) → next.sets ≤ k → K (set_numbered k)
     pub cards : (k : ℕ) → next.cards ≤ k → K (card_var k)
 
-  pub int_args_have : (xs : List Arg) → AllByRecursion ArgHas xs → AllByRecursion TermHas (int_args xs)
+  int_args_have : (xs : List Arg) → AllByRecursion ArgHas xs → AllByRecursion TermHas (int_args xs)
   int_args_have [] h = tt
   int_args_have (IntArg t ∷ xs) h = (h.0, int_args_have xs h.1)
   int_args_have (SetArg u ∷ xs) h = int_args_have xs h.1
 
-  pub set_args_have : (xs : List Arg) → AllByRecursion ArgHas xs → AllByRecursion SetHas (set_args xs)
+  set_args_have : (xs : List Arg) → AllByRecursion ArgHas xs → AllByRecursion SetHas (set_args xs)
   set_args_have [] h = tt
   set_args_have (IntArg t ∷ xs) h = set_args_have xs h.1
   set_args_have (SetArg u ∷ xs) h = (h.0, set_args_have xs h.1)
@@ -225,29 +225,29 @@ pub one_var : (K : Var → Type 0) (v : Var) → K v → Each K (v ∷ [])
 one_var K v h w (inl e) = subst K (sym e) h
 one_var K v h w (inr m) = absurd m
 
-pub ints_length : (a m : ℕ) → length (map var_term (new_ints a m)) ≡ m
+ints_length : (a m : ℕ) → length (map var_term (new_ints a m)) ≡ m
 ints_length a zero = refl
 ints_length a (suc m) = ap suc (ints_length (suc a) m)
 
-pub sets_length : (a m : ℕ) → length (map set_var (new_sets a m)) ≡ m
+sets_length : (a m : ℕ) → length (map set_var (new_sets a m)) ≡ m
 sets_length a zero = refl
 sets_length a (suc m) = ap suc (sets_length (suc a) m)
 
-pub room : (k n x : ℕ) → k < n → k < x + (n - x)
+room : (k n x : ℕ) → k < n → k < x + (n - x)
 room k n x h = omega arith
 
-pub is_int : (v : Var) → sort_eq v.sort Int ≡ true → int_var v.number ≡ v
+is_int : (v : Var) → sort_eq v.sort Int ≡ true → int_var v.number ≡ v
 is_int v h = ap (λ s. record { sort = s; number = v.number }) (sym ((Decides-sort_eq v.sort Int).0 h))
 
-pub is_set : (v : Var) → sort_eq v.sort Set ≡ true → set_numbered v.number ≡ v
+is_set : (v : Var) → sort_eq v.sort Set ≡ true → set_numbered v.number ≡ v
 is_set v h = ap (λ s. record { sort = s; number = v.number }) (sym ((Decides-sort_eq v.sort Set).0 h))
 
 module _ (K : Var → Type 0) (j : InstOf) (next : Next) (new : NewHave K next) (args : AllByRecursion (ArgHas K) j.args) where
-  pub new_ints_have : (a m : ℕ) → next.ints ≤ a → AllByRecursion (TermHas K) (map var_term (new_ints a m))
+  new_ints_have : (a m : ℕ) → next.ints ≤ a → AllByRecursion (TermHas K) (map var_term (new_ints a m))
   new_ints_have a zero l = tt
   new_ints_have a (suc m) l = ((refl, one_var K (int_var a) (new.ints a l)), new_ints_have (suc a) m (up next.ints a l))
 
-  pub new_sets_have : (a m : ℕ) → next.sets ≤ a → AllByRecursion (SetHas K) (map set_var (new_sets a m))
+  new_sets_have : (a m : ℕ) → next.sets ≤ a → AllByRecursion (SetHas K) (map set_var (new_sets a m))
   new_sets_have a zero l = tt
   new_sets_have a (suc m) l = ((refl, one_var K (set_numbered a) (new.sets a l)), new_sets_have (suc a) m (up next.sets a l))
 
@@ -261,27 +261,27 @@ module _ (K : Var → Type 0) (j : InstOf) (next : Next) (new : NewHave K next) 
     abbrev pub us : List SetTerm
     us = set_args j.args ++ map set_var (new_sets next.sets (own_sets j.args c))
 
-    pub terms_have : AllByRecursion (TermHas K) ts
+    terms_have : AllByRecursion (TermHas K) ts
     terms_have =
         Every-append (TermHas K) (int_args j.args) (map var_term (new_ints next.ints (own_ints j.args c))) (int_args_have K j.args args) (new_ints_have next.ints (own_ints j.args c) (self next.ints))
 
-    pub sets_have : AllByRecursion (SetHas K) us
+    sets_have : AllByRecursion (SetHas K) us
     sets_have =
         Every-append (SetHas K) (set_args j.args) (map set_var (new_sets next.sets (own_sets j.args c))) (set_args_have K j.args args) (new_sets_have next.sets (own_sets j.args c) (self next.sets))
 
-    pub ints_long : (k : ℕ) → k < c.ints → k < length ts
+    ints_long : (k : ℕ) → k < c.ints → k < length ts
     ints_long k h =
         subst (λ m. k < m)
         (sym (length-append (int_args j.args) (map var_term (new_ints next.ints (own_ints j.args c))) ∙ ap (λ m. length (int_args j.args) + m) (ints_length next.ints (own_ints j.args c))))
         (room k c.ints (length (int_args j.args)) h)
 
-    pub sets_long : (k : ℕ) → k < c.sets → k < length us
+    sets_long : (k : ℕ) → k < c.sets → k < length us
     sets_long k h =
         subst (λ m. k < m)
         (sym (length-append (set_args j.args) (map set_var (new_sets next.sets (own_sets j.args c))) ∙ ap (λ m. length (set_args j.args) + m) (sets_length next.sets (own_sets j.args c))))
         (room k c.sets (length (set_args j.args)) h)
 
-    pub fit : ImagesFit is_number_var is_set_var by
+    fit : ImagesFit is_number_var is_set_var by
     fit = record {
       ints = λ v to _ e. (Every-among (TermHas K) to ts terms_have (int_image_among 0 ts v to e)).0;
       sets = λ v to _ e. (Every-among (SetHas K) to us sets_have (set_image_among 0 us v to e)).0;
@@ -290,13 +290,13 @@ module _ (K : Var → Type 0) (j : InstOf) (next : Next) (new : NewHave K next) 
     abbrev pub Any : Var → Type 0
     Any v = Unit {0}
 
-    pub from_zero : (k n : ℕ) → k < n → k < 0 + n
+    from_zero : (k n : ℕ) → k < n → k < 0 + n
     from_zero k n h = omega arith
 
-    pub at_least : (k : ℕ) → 0 ≤ k
+    at_least : (k : ℕ) → 0 ≤ k
     at_least k = omega arith
 
-    pub brings : Brings by (is_below Int c.ints) (is_below Set c.sets) Any K
+    brings : Brings by (is_below Int c.ints) (is_below Set c.sets) Any K
     brings = record {
       ints = λ v h _.
           let both = and_parts (sort_eq v.sort Int) (nat_lt v.number c.ints) h in
