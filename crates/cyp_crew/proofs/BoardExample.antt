@@ -3,7 +3,7 @@ use Rattle.std.proofs.Common.{◌≡◌, refl, sym, ◌∙◌, ap, subst, IsTrue
 use Rattle.std.specs.List.{Contains}
 use Rattle.std.proofs.lemmas.Option.{same_Some, none-some}
 use Rattle.cyp_space.specs.Alts.{AltOf}
-use Rattle.cyp_tree.specs.declared.status.Status.TheVariants.{Open}
+use Rattle.cyp_tree.specs.declared.mark.Mark.TheVariants.{Undecided}
 use Rattle.cyp_tree.specs.Live.{Waiting}
 use Rattle.cyp_search.specs.Stages.{stage}
 use Rattle.cyp_crew.specs.declared.event.Event.{Event}
@@ -23,7 +23,7 @@ abbrev crew : Crew ℕ
 crew = record { commits = 1; published = 0 ∷ []; outstanding = claim ∷ []; claims = 2 }
 
 abbrev mark : ℕ → Mark ℕ
-mark k = record { number = k; node = k; priority = k; status = Open }
+mark k = record { number = k; node = k; priority = k; status = Undecided }
 
 abbrev entry : ℕ → Entry
 entry k = record { priority = k; leaf = k }

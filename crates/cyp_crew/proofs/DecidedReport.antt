@@ -2,8 +2,8 @@
 use Rattle.std.proofs.Common.{◌≡◌, refl, sym, ◌∙◌, ap, ℕ, suc, ◌<◌, ◌==◌, Bool, true, false, not, ◌&&◌, ◌||◌, inl, inr, List, [], ◌∷◌, Option, Some, None, arith, subst}
 use Rattle.std.specs.Option.{option_and_then}
 use Rattle.std.proofs.lemmas.Bool.{cases_lt, ltb-true, ne_eqb}
-use Rattle.cyp_tree.specs.declared.status.Status.{Status}
-use Rattle.cyp_tree.specs.declared.status.Status.TheVariants.{Open, Solved, Failed}
+use Rattle.cyp_tree.specs.declared.mark.Mark.{Mark}
+use Rattle.cyp_tree.specs.declared.mark.Mark.TheVariants.{Undecided, Solved, Failed}
 use Rattle.cyp_tree.specs.Statuses.{status}
 use Rattle.cyp_tree.specs.Derivations.{Derivation, chosen_derivation}
 use Rattle.cyp_search.specs.Reports.{PlainVerdict, PlainReport, verdict_at, ending_by, ending, report, IsReport}
@@ -19,18 +19,18 @@ use Rattle.cyp_crew.proofs.Steps.{May, may_commit_of, commit_law, stay_law, open
 use Rattle.cyp_crew.proofs.Paths.{stage_law}
 
 -- an open root with budget left and room for the next stage doesn't end a search
-goes_on : {R N : Type 0} (s : Status) (spent fits : Bool) (d : Option (Derivation R N)) → s ≡ Open → spent ≡ false → fits ≡ true → ending_by s spent fits d ≡ None
+goes_on : {R N : Type 0} (s : Mark) (spent fits : Bool) (d : Option (Derivation R N)) → s ≡ Undecided → spent ≡ false → fits ≡ true → ending_by s spent fits d ≡ None
 goes_on s spent fits d e f g = λ i. ending_by (e i) (f i) (g i) d
 
 -- a decided root, a spent budget or no room ends it, with the verdict of its status
-ends_with : {R N : Type 0} (s : Status) (spent published fits : Bool) (d : Option (Derivation R N)) → (not (is_open s) || spent || (published && not fits)) ≡ true
+ends_with : {R N : Type 0} (s : Mark) (spent published fits : Bool) (d : Option (Derivation R N)) → (not (is_open s) || spent || (published && not fits)) ≡ true
     → ending_by s spent fits d ≡ Some (verdict_at s d)
 ends_with Solved spent published fits d e = refl
 ends_with Failed spent published fits d e = refl
-ends_with Open true published fits d e = refl
-ends_with Open false published false d e = refl
-ends_with Open false true true d e = cc
-ends_with Open false false true d e = cc
+ends_with Undecided true published fits d e = refl
+ends_with Undecided false published false d e = refl
+ends_with Undecided false true true d e = cc
+ends_with Undecided false false true d e = cc
 
 module _ {R N : Type 0} (t : Task R N) where
   abbrev end_at : ℕ → Option (PlainVerdict R N)

@@ -2,8 +2,8 @@
 use Rattle.std.proofs.Common.{◌≡◌, refl, sym, ap, ℕ, suc, Bool, true, false, not, ◌&&◌, Option, Some, None, nat_lt}
 use Rattle.std.proofs.lemmas.Bool.{and_parts}
 use Rattle.std.proofs.lemmas.Option.{same_Some}
-use Rattle.cyp_tree.specs.declared.status.Status.{Status}
-use Rattle.cyp_tree.specs.declared.status.Status.TheVariants.{Open, Solved, Failed}
+use Rattle.cyp_tree.specs.declared.mark.Mark.{Mark}
+use Rattle.cyp_tree.specs.declared.mark.Mark.TheVariants.{Undecided, Solved, Failed}
 use Rattle.cyp_tree.specs.Statuses.{status}
 use Rattle.cyp_tree.specs.Live.{Waiting}
 use Rattle.cyp_crew.specs.declared.event.Event.{Event}
@@ -22,8 +22,8 @@ pub so_led : {N : Type 0} (b : Bool) (o : Option (Crew N)) (d : Crew N) → wher
 so_led true o d e = e
 so_led false o d e = cc
 
-pub open_from : (s : Status) → is_open s ≡ true → s ≡ Open
-open_from Open e = refl
+pub open_from : (s : Mark) → is_open s ≡ true → s ≡ Undecided
+open_from Undecided e = refl
 open_from Solved e = cc
 open_from Failed e = cc
 

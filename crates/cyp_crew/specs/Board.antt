@@ -2,8 +2,8 @@
 use Rattle.std.specs.Prelude.{◌≡◌, IsTrue, ℕ, ◌+◌, ◌≤◌, List, [], ◌∷◌, ◌++◌, length, slice_get, Option, Some}
 use Rattle.std.specs.List.{Contains}
 use Rattle.cyp_space.specs.Alts.{AltOf}
-use Rattle.cyp_tree.specs.declared.status.Status.{Status}
-use Rattle.cyp_tree.specs.declared.status.Status.TheVariants.{Open}
+use Rattle.cyp_tree.specs.declared.mark.Mark.{Mark}
+use Rattle.cyp_tree.specs.declared.mark.Mark.TheVariants.{Undecided}
 use Rattle.cyp_tree.specs.Trees.{Tree, Leaf, Grown, Alts, NoAlt, AltThen, Parts, NoPart, PartThen}
 use Rattle.cyp_tree.specs.Statuses.{alts_status}
 use Rattle.cyp_tree.specs.Sizes.{size}
@@ -19,12 +19,12 @@ pub record Mark (N : Type 0) : Type 0 where
   pub number : ℕ
   pub node : N
   pub priority : ℕ
-  pub status : Status
+  pub status : Mark
 
 abbrev mutual
   -- the nodes of a tree, where the path to it has this cost
   pub marks : {R N : Type 0} → (N → ℕ) → ℕ → Tree R N → List (Mark N)
-  marks weight c (Leaf k n) = record { number = k; node = n; priority = c + weight n; status = Open } ∷ []
+  marks weight c (Leaf k n) = record { number = k; node = n; priority = c + weight n; status = Undecided } ∷ []
   marks weight c (Grown k n as') = record { number = k; node = n; priority = c + weight n; status = alts_status as' } ∷ alts_marks weight c as'
 
   pub alts_marks : {R N : Type 0} → (N → ℕ) → ℕ → Alts R N → List (Mark N)
@@ -117,7 +117,7 @@ module _ {R N : Type 0} (t : Task R N) (vs : List Event) (b : PlainBoard R N) wh
 
 -- the root's node, as that of the first stage
 abbrev pub root_mark : {R N : Type 0} → Task R N → Mark N
-root_mark t = record { number = 0; node = t.root; priority = 0 + t.space.weight t.root; status = Open }
+root_mark t = record { number = 0; node = t.root; priority = 0 + t.space.weight t.root; status = Undecided }
 
 -- the board of a search that nothing was done of
 abbrev pub fresh_board : {R N : Type 0} → Task R N → PlainBoard R N

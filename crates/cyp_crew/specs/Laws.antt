@@ -2,7 +2,7 @@
 use Rattle.std.specs.Prelude.{◌≡◌, IsTrue, suc, List, [], ◌∷◌, ◌++◌, Some}
 use Rattle.std.specs.List.{Contains}
 use Rattle.std.specs.Option.{option_and_then}
-use Rattle.cyp_tree.specs.declared.status.Status.TheVariants.{Open}
+use Rattle.cyp_tree.specs.declared.mark.Mark.TheVariants.{Undecided}
 use Rattle.cyp_tree.specs.Statuses.{status}
 use Rattle.cyp_tree.specs.Growing.{expand_next}
 use Rattle.cyp_search.specs.Reports.{IsReport, report}
@@ -35,7 +35,7 @@ PrefixLaw R N =
 
 -- a commit is the one step from a stage of the search to the next, and leaves publications and claims as they are
 pub record Commits {R N : Type 0} (t : Task R N) (c d : Crew N) : Type 0 where
-  pub was_open : status (crew_tree t c) ≡ Open
+  pub was_open : status (crew_tree t c) ≡ Undecided
   pub tree : crew_tree t d ≡ expand_next t.space (crew_tree t c)
   pub commits : d.commits ≡ suc c.commits
   pub published : d.published ≡ c.published

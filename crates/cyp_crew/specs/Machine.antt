@@ -1,7 +1,7 @@
 -- The events that a crew may make, and what each leaves.
 use Rattle.std.specs.Prelude.{ℕ, suc, ◌^◌, ◌==◌, Bool, true, false, not, ◌&&◌, [], ◌∷◌, ◌++◌, count_by, nat_le, nat_lt, Option, Some, None}
-use Rattle.cyp_tree.specs.declared.status.Status.{Status}
-use Rattle.cyp_tree.specs.declared.status.Status.TheVariants.{Open, Solved, Failed}
+use Rattle.cyp_tree.specs.declared.mark.Mark.{Mark}
+use Rattle.cyp_tree.specs.declared.mark.Mark.TheVariants.{Undecided, Solved, Failed}
 use Rattle.cyp_tree.specs.Statuses.{status}
 use Rattle.cyp_tree.specs.Sizes.{size}
 use Rattle.cyp_tree.specs.Live.{Waiting}
@@ -17,8 +17,8 @@ where_so true c = c
 where_so false c = None
 
 -- neither solved nor failed
-abbrev pub is_open : Status → Bool
-is_open Open = true
+abbrev pub is_open : Mark → Bool
+is_open Undecided = true
 is_open Solved = false
 is_open Failed = false
 

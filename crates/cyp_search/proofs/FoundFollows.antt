@@ -1,7 +1,7 @@
 -- A derivation that a search finds is one of the root, and follows the moves of the space.
 use Rattle.std.proofs.Common.{◌≡◌, ap, sym, ◌∙◌, subst, ℕ, zero, suc, ◌==◌, Bool, true, false, Option, Some, None, IfSome, nat_le}
-use Rattle.cyp_tree.specs.declared.status.Status.{Status}
-use Rattle.cyp_tree.specs.declared.status.Status.TheVariants.{Open, Solved, Failed}
+use Rattle.cyp_tree.specs.declared.mark.Mark.{Mark}
+use Rattle.cyp_tree.specs.declared.mark.Mark.TheVariants.{Undecided, Solved, Failed}
 use Rattle.cyp_tree.specs.Trees.{Tree, Moving}
 use Rattle.cyp_tree.specs.Statuses.{status}
 use Rattle.cyp_tree.specs.Sizes.{size}
@@ -14,13 +14,13 @@ use Rattle.cyp_search.specs.Reports.{PlainVerdict, Found, PlainReport, ending_by
 use Rattle.cyp_search.proofs.ReportProof.{report_law}
 
 -- what is found at a stage is the chosen derivation of its tree
-found_by : {R N : Type 0} (s : Status) (spent fits : Bool) (o : Option (Derivation R N)) (d : Derivation R N) → ending_by s spent fits o ≡ Some (Found d) → o ≡ Some d
+found_by : {R N : Type 0} (s : Mark) (spent fits : Bool) (o : Option (Derivation R N)) (d : Derivation R N) → ending_by s spent fits o ≡ Some (Found d) → o ≡ Some d
 found_by Solved spent fits None d e = cc
 found_by Solved spent fits (Some c) d e = cc
 found_by Failed spent fits o d e = cc
-found_by Open true fits o d e = cc
-found_by Open false true o d e = cc
-found_by Open false false o d e = cc
+found_by Undecided true fits o d e = cc
+found_by Undecided false true o d e = cc
+found_by Undecided false false o d e = cc
 
 module _ {R N : Type 0} (space : Moving R N) (budget limit : ℕ) (top : N) where
   stage_grown : (k : ℕ) → IsGrown space.moves top (stage space top k)

@@ -4,8 +4,8 @@ use Rattle.std.specs.List.{sum_by}
 use Rattle.std.specs.Option.{option_map}
 use Rattle.std.proofs.lemmas.List.Sums.{sum_by-cons}
 use Rattle.cyp_space.specs.Alts.{AltOf}
-use Rattle.cyp_tree.specs.declared.status.Status.{Status}
-use Rattle.cyp_tree.specs.declared.status.Status.TheVariants.{Open, Solved, Failed}
+use Rattle.cyp_tree.specs.declared.mark.Mark.{Mark}
+use Rattle.cyp_tree.specs.declared.mark.Mark.TheVariants.{Undecided, Solved, Failed}
 use Rattle.cyp_tree.specs.Trees.{Leaf, Moving}
 use Rattle.cyp_tree.specs.Statuses.{status}
 use Rattle.cyp_tree.specs.Live.{Waiting, live_leaves, least_waiting, next_leaf}
@@ -45,9 +45,9 @@ module _ {R N : Type 0} (weight : N → ℕ) (b : Branch R N) (root : N) (is : t
   }
 
 -- a root that isn't told to be open isn't
-pub not_open : {N : Type 0} (s : Status) (ws : List (Waiting (Weighed N))) (o : Outlook N) → Tells s ws o → ((leaf : LiveLeaf N) → o ≡ is_open leaf → ⊥) → s ≡ Open → ⊥
-not_open s ws was_solved e h q = let bad : Solved ≡ Open = sym e ∙ q in cc
-not_open s ws has_failed e h q = let bad : Failed ≡ Open = sym e ∙ q in cc
+pub not_open : {N : Type 0} (s : Mark) (ws : List (Waiting (Weighed N))) (o : Outlook N) → Tells s ws o → ((leaf : LiveLeaf N) → o ≡ is_open leaf → ⊥) → s ≡ Undecided → ⊥
+not_open s ws was_solved e h q = let bad : Solved ≡ Undecided = sym e ∙ q in cc
+not_open s ws has_failed e h q = let bad : Failed ≡ Undecided = sym e ∙ q in cc
 not_open s ws (is_open leaf) e h q = h leaf refl
 
 unmapped : {A B : Type 0} (f : A → B) (g : B → A) → ((n : A) → g (f n) ≡ n) → (o : Option (Waiting A)) → option_map (map_waiting g) (option_map (map_waiting f) o) ≡ o
@@ -66,7 +66,7 @@ module _ {R N : Type 0} (space : Moving R N) (b : Branch R N) (nodes : ℕ) (kep
     abbrev waits : Waiting N
     waits = record { priority = leaf.priority; number = leaf.number; node = leaf.node.now }
 
-    pub open_root : status (plain_tree b) ≡ Open
+    pub open_root : status (plain_tree b) ≡ Undecided
     open_root = plain_status ∙ told.0
 
     pub next_is : next_leaf space.weight (plain_tree b) ≡ Some waits

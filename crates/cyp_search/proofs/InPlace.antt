@@ -12,7 +12,7 @@ use Rattle.cyp_tree.specs.Trees.{Tree, Grown, Alts, Parts, PartThen, AltThen}
 use Rattle.cyp_tree.specs.Growing.{graft, graft_alts, graft_parts}
 use Rattle.cyp_tree.specs.Numbers.{leaves, alts_leaves, parts_leaves}
 use Rattle.cyp_search.specs.Branches.{Weighed, PlainWay, tree_step, way_step, tree_of, trees_of, way_of, ways_of, alts_of, parts_of}
-use Rattle.cyp_search.proofs.Grafted.{graft-absent, graft_alts-absent, graft_parts-absent}
+use Rattle.cyp_tree.proofs.AbsentLeaves.{graft-absent, graft_alts-absent, graft_parts-absent}
 use Rattle.cyp_search.proofs.Items.{drop-item}
 use Rattle.cyp_search.proofs.Views.{root_node, tree_grown, way_rule, way_cost}
 

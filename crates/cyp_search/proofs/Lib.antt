@@ -2,7 +2,6 @@ pub mod Appended
 pub mod Combining
 pub mod DerivationsAppended
 pub mod FoundFollows
-pub mod Grafted
 pub mod Growth
 pub mod InPlace
 pub mod Items

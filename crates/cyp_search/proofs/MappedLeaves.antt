@@ -1,8 +1,8 @@
 -- The live leaves of a mapped tree are the mapped live leaves, and so is the next one.
 use Rattle.std.proofs.Common.{◌≡◌, refl, sym, ap, ◌∙◌, ℕ, ◌+◌, Bool, true, false, cond, List, [], ◌∷◌, ◌++◌, map, Option, Some, None}
 use Rattle.std.specs.Option.{option_map}
-use Rattle.cyp_tree.specs.declared.status.Status.{Status}
-use Rattle.cyp_tree.specs.declared.status.Status.TheVariants.{Open, Solved, Failed}
+use Rattle.cyp_tree.specs.declared.mark.Mark.{Mark}
+use Rattle.cyp_tree.specs.declared.mark.Mark.TheVariants.{Undecided, Solved, Failed}
 use Rattle.cyp_tree.specs.Trees.{Tree, Leaf, Grown, Alts, NoAlt, AltThen, Parts, NoPart, PartThen}
 use Rattle.cyp_tree.specs.Statuses.{alts_status, parts_status}
 use Rattle.cyp_tree.specs.Live.{Waiting, where_open, unless_failed, live_leaves, live_alts, live_parts, comes_first, first_of, least_waiting}
@@ -16,13 +16,13 @@ append-map : {A B : Type 0} (f : A → B) (xs ys : List A) → map f (xs ++ ys) 
 append-map f [] ys = refl
 append-map f (x ∷ xs) ys = ap (λ zs. f x ∷ zs) (append-map f xs ys)
 
-where_open-map : {A B : Type 0} (f : A → B) (s : Status) (xs : List A) → where_open s (map f xs) ≡ map f (where_open s xs)
-where_open-map f Open xs = refl
+where_open-map : {A B : Type 0} (f : A → B) (s : Mark) (xs : List A) → where_open s (map f xs) ≡ map f (where_open s xs)
+where_open-map f Undecided xs = refl
 where_open-map f Solved xs = refl
 where_open-map f Failed xs = refl
 
-unless_failed-map : {A B : Type 0} (f : A → B) (s : Status) (xs : List A) → unless_failed s (map f xs) ≡ map f (unless_failed s xs)
-unless_failed-map f Open xs = refl
+unless_failed-map : {A B : Type 0} (f : A → B) (s : Mark) (xs : List A) → unless_failed s (map f xs) ≡ map f (unless_failed s xs)
+unless_failed-map f Undecided xs = refl
 unless_failed-map f Solved xs = refl
 unless_failed-map f Failed xs = refl
 

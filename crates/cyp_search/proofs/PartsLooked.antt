@@ -1,8 +1,8 @@
 -- What a look through the parts of an alternative keeps.
 use Rattle.std.proofs.Common.{◌≡◌, refl, sym, ap, ◌∙◌, ℕ, List, [], ◌∷◌, Option, Some, None, arith}
 use Rattle.std.specs.Option.{option_map}
-use Rattle.cyp_tree.specs.declared.status.Status.{Status}
-use Rattle.cyp_tree.specs.declared.status.Status.TheVariants.{Open, Solved, Failed}
+use Rattle.cyp_tree.specs.declared.mark.Mark.{Mark}
+use Rattle.cyp_tree.specs.declared.mark.Mark.TheVariants.{Undecided, Solved, Failed}
 use Rattle.cyp_tree.specs.Trees.{Tree, Leaf, Grown}
 use Rattle.cyp_tree.specs.Statuses.{both, status, parts_status}
 use Rattle.cyp_tree.specs.Live.{where_open, live_leaves, live_alts, live_parts, first_of, least_waiting}
@@ -32,13 +32,13 @@ module _ {R N : Type 0} (first : Option (LiveLeaf N)) (cost : ℕ) (b : Branch R
     fits = omega (arith, was.fits);
   }
 
-  both_open : {N : Type 0} (f : Option (LiveLeaf N)) (p : Status) → both (status_so_far Solved f) (both Open p) ≡ both Open p
+  both_open : {N : Type 0} (f : Option (LiveLeaf N)) (p : Mark) → both (status_so_far Solved f) (both Undecided p) ≡ both Undecided p
   both_open None p = refl
-  both_open (Some leaf) Open = refl
+  both_open (Some leaf) Undecided = refl
   both_open (Some leaf) Solved = refl
   both_open (Some leaf) Failed = refl
 
-  pub looked_open : (leaf now : LiveLeaf N) → status (tree_of b) ≡ Open → least_waiting (live_leaves own_weight cost (tree_of b)) ≡ Some (waiting_of leaf)
+  pub looked_open : (leaf now : LiveLeaf N) → status (tree_of b) ≡ Undecided → least_waiting (live_leaves own_weight cost (tree_of b)) ≡ Some (waiting_of leaf)
       → Some (waiting_of now) ≡ first_of (option_map waiting_of first) (Some (waiting_of leaf)) → PartsLooked (Some now) cost rest all
   looked_open leaf now e f h = record {
     same_status = sym (both_open first (parts_status (trees_of rest))) ∙ (rw e at was.same_status);

@@ -1,8 +1,8 @@
 -- What a look through the alternatives of a node keeps.
 use Rattle.std.proofs.Common.{◌≡◌, refl, sym, ap, ◌∙◌, ℕ, ◌+◌, List, ◌∷◌, Option, Some, None, arith}
 use Rattle.std.specs.Option.{option_map}
-use Rattle.cyp_tree.specs.declared.status.Status.{Status}
-use Rattle.cyp_tree.specs.declared.status.Status.TheVariants.{Open, Solved, Failed}
+use Rattle.cyp_tree.specs.declared.mark.Mark.{Mark}
+use Rattle.cyp_tree.specs.declared.mark.Mark.TheVariants.{Undecided, Solved, Failed}
 use Rattle.cyp_tree.specs.Statuses.{either, alts_status, parts_status}
 use Rattle.cyp_tree.specs.Live.{live_alts, live_parts, first_of, least_waiting}
 use Rattle.cyp_tree.specs.Sizes.{alts_size}
@@ -19,9 +19,9 @@ pub record WaysLooked {R N : Type 0} (first : Option (LiveLeaf N)) (cost : ℕ) 
       ≡ least_waiting (live_alts own_weight cost (ways_of all))
   pub fits : CostsFit cost (1 + alts_size (ways_of rest))
 
-either_open : {N : Type 0} (f : Option (LiveLeaf N)) (p : Status) → either (status_so_far Failed f) (either Open p) ≡ either Open p
+either_open : {N : Type 0} (f : Option (LiveLeaf N)) (p : Mark) → either (status_so_far Failed f) (either Undecided p) ≡ either Undecided p
 either_open None p = refl
-either_open (Some leaf) Open = refl
+either_open (Some leaf) Undecided = refl
 either_open (Some leaf) Solved = refl
 either_open (Some leaf) Failed = refl
 
@@ -40,7 +40,7 @@ module _ {R N : Type 0} (first : Option (LiveLeaf N)) (cost : ℕ) (w : Way R N)
     fits = omega (arith, was.fits);
   }
 
-  pub looked_open : (leaf now : LiveLeaf N) → parts_status (way_of w).parts ≡ Open
+  pub looked_open : (leaf now : LiveLeaf N) → parts_status (way_of w).parts ≡ Undecided
       → least_waiting (live_parts own_weight (cost + (way_of w).cost) (way_of w).parts) ≡ Some (waiting_of leaf)
       → Some (waiting_of now) ≡ first_of (option_map waiting_of first) (Some (waiting_of leaf)) → WaysLooked (Some now) cost rest all
   looked_open leaf now e f h = record {

@@ -1,7 +1,7 @@
 -- What the search keeps of its tree.
 use Rattle.std.specs.Prelude.{◌≡◌, ℕ, ◌<◌, ◌≤◌, Option, Some, None}
 use Rattle.cyp_search.specs.declared.branch.Branch.{Branch}
-use Rattle.cyp_tree.specs.declared.status.Status.TheVariants.{Open}
+use Rattle.cyp_tree.specs.declared.mark.Mark.TheVariants.{Undecided}
 use Rattle.cyp_tree.specs.Trees.{Moving}
 use Rattle.cyp_tree.specs.Statuses.{status}
 use Rattle.cyp_tree.specs.Sizes.{size}
@@ -19,5 +19,5 @@ pub record IsKept {R N : Type 0} (weight : N → ℕ) (b : Branch R N) (nodes : 
 -- an open tree is expanded where the nodes fit, and then it has so many; else it stays
 abbrev pub Grows : {R N : Type 0} → Moving R N → ℕ → Branch R N → Branch R N → Option ℕ → Type 0
 Grows space limit old new (Some nodes) =
-    (status (plain_tree old) ≡ Open) × (nodes ≤ limit) × (plain_tree new ≡ expand_next space (plain_tree old)) × IsKept space.weight new nodes
-Grows space limit old new None = (plain_tree new ≡ plain_tree old) × (status (plain_tree old) ≡ Open → limit < size (expand_next space (plain_tree old)))
+    (status (plain_tree old) ≡ Undecided) × (nodes ≤ limit) × (plain_tree new ≡ expand_next space (plain_tree old)) × IsKept space.weight new nodes
+Grows space limit old new None = (plain_tree new ≡ plain_tree old) × (status (plain_tree old) ≡ Undecided → limit < size (expand_next space (plain_tree old)))

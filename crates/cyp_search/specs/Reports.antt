@@ -1,7 +1,7 @@
 -- The answer of a best-first search with a budget and a limit of nodes.
 use Rattle.std.specs.Prelude.{◌≡◌, ℕ, zero, suc, ◌<◌, ◌==◌, nat_le, Bool, true, false, Option, Some, None}
-use Rattle.cyp_tree.specs.declared.status.Status.{Status}
-use Rattle.cyp_tree.specs.declared.status.Status.TheVariants.{Open, Solved, Failed}
+use Rattle.cyp_tree.specs.declared.mark.Mark.{Mark}
+use Rattle.cyp_tree.specs.declared.mark.Mark.TheVariants.{Undecided, Solved, Failed}
 use Rattle.cyp_tree.specs.Trees.{Tree, Leaf, Moving}
 use Rattle.cyp_tree.specs.Statuses.{status}
 use Rattle.cyp_tree.specs.Sizes.{size, depth}
@@ -30,12 +30,12 @@ found_or_spent (Some d) = Found d
 -- ---- the answer as that of the least stage that ends the search
 
 -- what ends a search at a stage, tried in this order: a solved root, a failed root, the budget, and more nodes at the next stage than fit
-abbrev pub ending_by : {R N : Type 0} → Status → Bool → Bool → Option (Derivation R N) → Option (PlainVerdict R N)
+abbrev pub ending_by : {R N : Type 0} → Mark → Bool → Bool → Option (Derivation R N) → Option (PlainVerdict R N)
 ending_by Solved spent fits d = Some (found_or_spent d)
 ending_by Failed spent fits d = Some NoneFound
-ending_by Open true fits d = Some Spent
-ending_by Open false true d = None
-ending_by Open false false d = Some Spent
+ending_by Undecided true fits d = Some Spent
+ending_by Undecided false true d = None
+ending_by Undecided false false d = Some Spent
 
 -- the verdict where the search ends at the stage after k expansions, and nothing where it goes on from there
 abbrev pub ending : {R N : Type 0} → Moving R N → ℕ → ℕ → N → ℕ → Option (PlainVerdict R N)
@@ -55,10 +55,10 @@ IsReport {R} {N} space budget limit root r =
 -- ---- the same, computed along the stages
 
 -- the verdict by the status of the last tree: its derivation if solved, none if failed, spent if still open
-abbrev pub verdict_at : {R N : Type 0} → Status → Option (Derivation R N) → PlainVerdict R N
+abbrev pub verdict_at : {R N : Type 0} → Mark → Option (Derivation R N) → PlainVerdict R N
 verdict_at Solved d = found_or_spent d
 verdict_at Failed d = NoneFound
-verdict_at Open d = Spent
+verdict_at Undecided d = Spent
 
 -- the report of a search that ends with the tree after k expansions
 abbrev pub report_at : {R N : Type 0} → ℕ → Tree R N → PlainReport R N
@@ -70,7 +70,7 @@ report_from space limit zero k t = report_at k t
 report_from space limit (suc left) k t = elim (status t) [
   | Solved ↦ report_at k t
   | Failed ↦ report_at k t
-  | Open ↦ let u : Tree _ _ = expand_next space t in elim (nat_le (size u) limit) [
+  | Undecided ↦ let u : Tree _ _ = expand_next space t in elim (nat_le (size u) limit) [
     | false ↦ report_at k t
     | true ↦ report_from space limit left (suc k) u
   ]

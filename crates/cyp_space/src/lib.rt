@@ -9,7 +9,7 @@ mod solved;
 mod space;
 mod stop;
 
-pub use moves::{Alt, Moves};
+pub use moves::{Alt, Moves, count_of_premises};
 pub use report::{Report, Verdict};
 pub use settings::Settings;
 pub use solved::Solved;

@@ -1,4 +1,5 @@
 ghost use Rattle.std.specs.Prelude.{◌≡◌, ◌≤◌, length};
+ghost use Rattle.cyp_space.specs.Alts.{premises_in};
 
 use cyp_term::{List, Shared};
 use std::marker::Model;
@@ -124,4 +125,17 @@ impl<R, N> Moves<R, N> {
         let Moves { alts } = self;
         alts
     }
+}
+
+/// How many premises the alternatives of a node, at most 48, have together.
+pub fn count_of_premises<R, N>(alts: &[Alt<R, N>]) -> u32
+    requires { length alts.now ≤ 48 }
+    ensures value { result ≡ premises_in alts.now }
+    ensures bound { result ≤ 12240 }
+{
+    let mut count = 0;
+    for alt in alts {
+        count += alt.premises().len() as u32;
+    }
+    count
 }

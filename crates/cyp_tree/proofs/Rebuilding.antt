@@ -1,0 +1,112 @@
+-- A derivation put together way by way.
+use Rattle.std.proofs.Common.{◌≡◌, refl, sym, ◌∙◌, ap, subst, ℕ, zero, suc, ◌+◌, ◌-◌, ◌≤◌, ◌<◌, List, [], ◌∷◌, ◌++◌, map, take, drop, length, Option, Some, None, IsSome, false, true, arith}
+use Rattle.std.specs.Prelude.{reverse}
+use Rattle.std.specs.List.{slice_get, All}
+use Rattle.std.specs.Option.{option_map, option_to_list}
+use Rattle.std.proofs.lemmas.List.{reverse-append, map-append, length-append, length-map, drop-map}
+use Rattle.cyp_space.specs.declared.solved.Solved.{Solved}
+use Rattle.cyp_tree.specs.declared.places.Place.{Place}
+use Rattle.cyp_tree.specs.declared.places.Way.{Way}
+use Rattle.cyp_tree.specs.declared.marks.Marks.{Marks}
+use Rattle.cyp_tree.specs.Numbers.{run_from}
+use Rattle.cyp_tree.specs.Derivations.{Derivation, Derived, derivations_of, plain_derivation, plain_derivations}
+use Rattle.cyp_tree.specs.Marked.{unsolved_at}
+use Rattle.cyp_tree.specs.Arenas.{IsArena}
+use Rattle.cyp_tree.specs.Choosing.{IsTaken, derived_at, Rebuilds, made_of, Joins}
+use Rattle.cyp_tree.proofs.Runs.{there_below}
+use Rattle.cyp_tree.proofs.TakenWays.{Gives, gives}
+
+-- ---- choosing: one more way, and its premises are pending in the place of its node
+
+module _ {R N : Type 0} (root : N) (ps : List (Place N)) (ws : List (Way R)) (m : Marks) (arena : IsArena ps ws m) where
+  abbrev derived : ℕ → Option (Derivation R N)
+  derived k = derived_at root ps ws k
+
+  pub takes_more : (whole : Option (Derivation R N)) (order pending : List ℕ) (at w : ℕ) (p : Place N) → slice_get ps at ≡ Some p → (g : Gives root ps ws m arena at w p)
+      → Rebuilds ps ws whole (reverse order) (map derived (pending ++ at ∷ []))
+      → Rebuilds ps ws whole (reverse (order ++ w ∷ [])) (map derived (pending ++ run_from g.y.parts.first g.y.parts.count))
+  takes_more whole order pending at w p found g h =
+      let one : map derived (pending ++ at ∷ []) ≡ map derived pending ++ Some (Derived p.node g.y.rule (derivations_of g.each)) ∷ [] =
+      map-append derived pending (at ∷ []) ∙ ap (λ (o : Option (Derivation R N)). map derived pending ++ o ∷ []) g.derived
+      in
+      let many : map derived (pending ++ run_from g.y.parts.first g.y.parts.count) ≡ map derived pending ++ map (λ d. Some d) g.each =
+      map-append derived pending (run_from g.y.parts.first g.y.parts.count) ∙ ap (λ (xs : List (Option (Derivation R N))). map derived pending ++ xs) g.are
+      in
+      let back : reverse (order ++ w ∷ []) ≡ w ∷ reverse order = reverse-append order (w ∷ []) in
+      subst (λ (ways : List ℕ). Rebuilds ps ws whole ways (map derived (pending ++ run_from g.y.parts.first g.y.parts.count))) (sym back) (
+        g.y,
+        p,
+        map derived pending,
+        g.each,
+        g.way,
+        ap (slice_get ps) g.above ∙ found,
+        g.long,
+        many,
+        subst (λ (xs : List (Option (Derivation R N))). Rebuilds ps ws whole (reverse order) xs) one h,
+      )
+
+-- ---- putting together
+
+take_front : {A : Type 0} (xs ys : List A) → take (length xs) (xs ++ ys) ≡ xs
+take_front [] ys = refl
+take_front (x ∷ xs) ys = ap (λ (l : List _). x ∷ l) (take_front xs ys)
+
+drop_front : {A : Type 0} (xs ys : List A) → drop (length xs) (xs ++ ys) ≡ ys
+drop_front [] ys = refl
+drop_front (x ∷ xs) ys = drop_front xs ys
+
+same_some : {R N : Type 0} (ss : List (Solved R N)) (ds : List (Derivation R N)) → made_of ss ≡ map (λ d. Some d) ds → map plain_derivation ss ≡ ds
+same_some [] [] e = refl
+same_some [] (d ∷ ds) e = cc
+same_some (s ∷ ss) [] e = cc
+same_some (s ∷ ss) (d ∷ ds) e =
+    let first : plain_derivation s ≡ d = cc in
+    let more : made_of ss ≡ map (λ d. Some d) ds = cc in
+    (λ i. first i ∷ same_some ss ds more i)
+
+all_some : {R N : Type 0} (ss : List (Solved R N)) (ds : List (Derivation R N)) → made_of ss ≡ map (λ d. Some d) ds → plain_derivations ss ≡ derivations_of ds
+all_some ss ds e = ap derivations_of (same_some ss ds e)
+
+module _ {R N : Type 0} (ps : List (Place N)) (ws : List (Way R)) (whole : Option (Derivation R N)) where
+  -- the next way is there, and has no more premises than derivations are made
+  pub record NextWay (w : ℕ) (made : List (Solved R N)) : Type 0 where
+    pub y : Way R
+    pub way : slice_get ws w ≡ Some y
+    pub enough : y.parts.count ≤ length made
+
+  made_length : (made : List (Solved R N)) (rest : List (Option (Derivation R N))) (parts : List (Derivation R N)) → made_of made ≡ rest ++ map (λ d. Some d) parts → length made ≡ length rest + length parts
+  made_length made rest parts e =
+      sym (length-map made (λ s. Some (plain_derivation s))) ∙ ap length e ∙ length-append rest (map (λ d. Some d) parts) ∙ ap (λ (n : ℕ). length rest + n) (length-map parts (λ d. Some d))
+
+  reversed_next : (order : List ℕ) (w : ℕ) (made : List (Option (Derivation R N))) → Rebuilds ps ws whole (reverse (order ++ w ∷ [])) made → Rebuilds ps ws whole (w ∷ reverse order) made
+  reversed_next order w made h = subst (λ (ways : List ℕ). Rebuilds ps ws whole ways made) (reverse-append order (w ∷ [])) h
+
+  next_of : (order : List ℕ) (w : ℕ) (made : List (Solved R N)) → Rebuilds ps ws whole (w ∷ reverse order) (made_of made) → NextWay w made
+  next_of order w made (y, p, rest, parts, f, g, long, e, more) = record { y = y; way = f; enough = omega (arith, made_length made rest parts e) }
+
+  pub next_way : (order : List ℕ) (w : ℕ) (made : List (Solved R N)) → Rebuilds ps ws whole (reverse (order ++ w ∷ [])) (made_of made) → NextWay w made
+  next_way order w made h = next_of order w made (reversed_next order w (made_of made) h)
+
+  joined_by : (order : List ℕ) (w : ℕ) (made new : List (Solved R N)) → Rebuilds ps ws whole (w ∷ reverse order) (made_of made) → Joins ps ws w made new → Rebuilds ps ws whole (reverse order) (made_of new)
+  joined_by order w made new (y, p, rest, parts, f, g, long, e, more) j =
+      let same : j.y ≡ y = (let eq : Some j.y ≡ Some y = sym j.way ∙ f in cc) in
+      let also : j.p ≡ p = (let eq : Some j.p ≡ Some p = sym j.place ∙ ap (λ (z : Way R). slice_get ps z.above) same ∙ g in cc) in
+      let count : j.y.parts.count ≡ y.parts.count = ap (λ (z : Way R). z.parts.count) same in
+      let keep : length made - j.y.parts.count ≡ length rest = omega (arith, made_length made rest parts e) in
+      let front : take (length made - j.y.parts.count) (made_of made) ≡ rest = (λ i. take (keep i) (e i)) ∙ take_front rest (map (λ d. Some d) parts) in
+      let behind : made_of (drop (length made - j.y.parts.count) made) ≡ map (λ d. Some d) parts =
+      sym (drop-map (λ s. Some (plain_derivation s)) (length made - j.y.parts.count) made) ∙ (λ i. drop (keep i) (e i)) ∙ drop_front rest (map (λ d. Some d) parts)
+      in
+      let one : Derived j.p.node j.y.rule (plain_derivations (drop (length made - j.y.parts.count) made)) ≡ Derived p.node y.rule (derivations_of parts) =
+      (λ i. Derived (also i).node (same i).rule (all_some (drop (length made - j.y.parts.count) made) parts behind i))
+      in
+      subst (λ (xs : List (Option (Derivation R N))). Rebuilds ps ws whole (reverse order) xs) (sym (j.joined ∙ (λ i. front i ++ Some (one i) ∷ []))) more
+
+  pub joined : (order : List ℕ) (w : ℕ) (made new : List (Solved R N)) → Rebuilds ps ws whole (reverse (order ++ w ∷ [])) (made_of made) → Joins ps ws w made new → Rebuilds ps ws whole (reverse order) (made_of new)
+  joined order w made new h j = joined_by order w made new (reversed_next order w (made_of made) h) j
+
+  -- the one that is left
+  pub last_one : (made rest : List (Solved R N)) (r : Option (Solved R N)) → made_of made ≡ whole ∷ [] → made ≡ rest ++ option_to_list r → IsSome r → option_map plain_derivation r ≡ whole
+  last_one made rest None e f h = let bad : false ≡ true = h in cc
+  last_one made [] (Some s) e f h = let one : made_of (s ∷ []) ≡ whole ∷ [] = ap made_of (sym f) ∙ e in cc
+  last_one made (x ∷ rest) (Some s) e f h = absurd (omega (arith, ap length e, length-map made (λ s. Some (plain_derivation s)), ap length f, length-append rest (s ∷ [])))
