@@ -3,7 +3,7 @@ use Rattle.std.proofs.Common.{◌≡◌, refl, sym, ◌∙◌, ap, subst, ℕ, z
 use Rattle.std.specs.List.{slice_get}
 use Rattle.std.proofs.lemmas.Bool.{cases_eq, cases_lt}
 use Rattle.std.proofs.lemmas.List.{get_or_past}
-use Rattle.cyp_space.specs.Alts.{AltOf}
+use Rattle.cyp_space.specs.Alts.{AltOf, premises_in}
 use Rattle.cyp_tree.specs.declared.mark.Mark.{Mark}
 use Rattle.cyp_tree.specs.declared.mark.Mark.TheVariants.{Undecided, Solved, Failed}
 use Rattle.cyp_tree.specs.declared.places.Run.{Run}
@@ -14,7 +14,7 @@ use Rattle.cyp_tree.specs.Statuses.{either, both}
 use Rattle.cyp_tree.specs.Standing.{IsIn, GoesDown, IsLinked}
 use Rattle.cyp_tree.specs.Told.{parts_sum, ways_sum, node_sum, one_unfailed, one_unsolved, unsolved_from, unfailed_in, unfailed_of, IsTold, IsToldBut, AreCounted, AreReached}
 use Rattle.cyp_tree.specs.Marked.{status_at, reached_at, unsolved_at, unfailed_at, AreSized}
-use Rattle.cyp_tree.specs.Enlarged.{new_ways, new_places, premises_in, grown_places, grown_ways, premises_status, fresh_status, AreBorn}
+use Rattle.cyp_tree.specs.Enlarged.{new_ways, new_places, grown_places, grown_ways, premises_status, fresh_status, AreBorn}
 use Rattle.cyp_tree.proofs.Runs.{there_below, get_append, get_append_cases}
 use Rattle.cyp_tree.proofs.Sweeping.{failed_part}
 use Rattle.cyp_tree.proofs.Enlarging.{new_way, new_in_way, old_run, new_run}

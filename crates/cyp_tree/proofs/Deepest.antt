@@ -1,7 +1,7 @@
 -- How deep a tree is once moves stand at a leaf.
 use Rattle.std.proofs.Common.{◌≡◌, refl, sym, ◌∙◌, ap, subst, ℕ, zero, suc, ◌+◌, ◌≤◌, ◌<◌, ◌==◌, Bool, true, false, cond, List, [], ◌∷◌, length, Some, min, max, arith}
 use Rattle.std.specs.List.{slice_get}
-use Rattle.cyp_space.specs.Alts.{AltOf}
+use Rattle.cyp_space.specs.Alts.{AltOf, premises_in}
 use Rattle.cyp_tree.specs.declared.places.Run.{Run}
 use Rattle.cyp_tree.specs.declared.places.Place.{Place}
 use Rattle.cyp_tree.specs.declared.places.Way.{Way}
@@ -10,7 +10,6 @@ use Rattle.cyp_tree.specs.declared.marks.Marks.{Marks}
 use Rattle.cyp_tree.specs.Sizes.{size, depth, alts_depth, parts_depth}
 use Rattle.cyp_tree.specs.Growing.{new_parts, new_alts, graft, graft_alts, graft_parts}
 use Rattle.cyp_tree.specs.Numbers.{one_where, leaves, alts_leaves, parts_leaves}
-use Rattle.cyp_tree.specs.Enlarged.{premises_in}
 use Rattle.cyp_tree.specs.Standing.{run_of, standing, Stands, AltsStand, PartsStand, IsIn, IsLinked}
 use Rattle.cyp_tree.specs.Arenas.{ArePaths, IsLeafPlace, HasGrafted}
 use Rattle.cyp_tree.specs.Marked.{reached_at}

@@ -5,16 +5,18 @@ use Rattle.std.specs.List.{slice_get, All}
 use Rattle.std.specs.Option.{option_map, option_to_list}
 use Rattle.std.proofs.lemmas.List.{reverse-append, map-append, length-append, length-map, drop-map}
 use Rattle.cyp_space.specs.declared.solved.Solved.{Solved}
+use Rattle.std.proofs.lemmas.List.Elements.{All-append, All-pop}
+use Rattle.cyp_tree.specs.declared.mark.Mark.TheVariants.{Solved as is_solved}
 use Rattle.cyp_tree.specs.declared.places.Place.{Place}
 use Rattle.cyp_tree.specs.declared.places.Way.{Way}
 use Rattle.cyp_tree.specs.declared.marks.Marks.{Marks}
 use Rattle.cyp_tree.specs.Numbers.{run_from}
-use Rattle.cyp_tree.specs.Derivations.{Derivation, Derived, derivations_of, plain_derivation, plain_derivations}
-use Rattle.cyp_tree.specs.Marked.{unsolved_at}
+use Rattle.cyp_tree.specs.Derivations.{Derivation, Derivations, Derived, derivations_of, plain_derivation, plain_derivations}
+use Rattle.cyp_tree.specs.Marked.{status_at, unsolved_at}
 use Rattle.cyp_tree.specs.Arenas.{IsArena}
-use Rattle.cyp_tree.specs.Choosing.{IsTaken, derived_at, Rebuilds, made_of, Joins}
+use Rattle.cyp_tree.specs.Choosing.{IsTaken, AreSolved, derived_at, Rebuilds, made_of, Joins}
 use Rattle.cyp_tree.proofs.Runs.{there_below}
-use Rattle.cyp_tree.proofs.TakenWays.{Gives, gives}
+use Rattle.cyp_tree.proofs.TakenWays.{Gives, gives, total, total-append, size_of}
 
 -- ---- choosing: one more way, and its premises are pending in the place of its node
 
@@ -45,6 +47,66 @@ module _ {R N : Type 0} (root : N) (ps : List (Place N)) (ws : List (Way R)) (m 
         subst (λ (xs : List (Option (Derivation R N))). Rebuilds ps ws whole (reverse order) xs) one h,
       )
 
+  -- a turn of choosing: the last pending place takes its way
+  pub record Turned (whole : Option (Derivation R N)) (order pending before : List ℕ) : Type 0 where
+    pub solved : AreSolved (status_at m) (length ps) pending
+    pub rebuilds : Rebuilds ps ws whole (reverse order) (map derived pending)
+    pub smaller : total (size_of root ps ws m arena) pending < total (size_of root ps ws m arena) before
+
+  turned_by : (whole : Option (Derivation R N)) (order rest : List ℕ) (at w : ℕ) → (t : IsTaken (unsolved_at m) ps at w) → Gives root ps ws m arena at w t.place
+      → AreSolved (status_at m) (length ps) rest → Rebuilds ps ws whole (reverse order) (map derived (rest ++ at ∷ []))
+      → (y : Way R) → slice_get ws w ≡ Some y → Turned whole (order ++ w ∷ []) (rest ++ run_from y.parts.first y.parts.count) (rest ++ at ∷ [])
+  turned_by whole order rest at w t g h r y e =
+      let same : g.y ≡ y = (let eq : Some g.y ≡ Some y = sym g.way ∙ e in cc) in
+      let turned : Turned whole (order ++ w ∷ []) (rest ++ run_from g.y.parts.first g.y.parts.count) (rest ++ at ∷ []) = record {
+        solved = All-append (λ k. (k < length ps) × (status_at m k ≡ is_solved)) rest (run_from g.y.parts.first g.y.parts.count) h g.solved;
+        rebuilds = takes_more whole order rest at w t.place t.found g r;
+        smaller = omega (arith, g.smaller, total-append (size_of root ps ws m arena) rest (run_from g.y.parts.first g.y.parts.count), total-append (size_of root ps ws m arena) rest (at ∷ []));
+      } in
+      subst (λ (z : Way R). Turned whole (order ++ w ∷ []) (rest ++ run_from z.parts.first z.parts.count) (rest ++ at ∷ [])) same turned
+
+  pub last_solved : (pending rest : List ℕ) (at : ℕ) → pending ≡ rest ++ at ∷ [] → AreSolved (status_at m) (length ps) pending → (at < length ps) × (status_at m at ≡ is_solved)
+  last_solved pending rest at e h = (All-pop (λ k. (k < length ps) × (status_at m k ≡ is_solved)) pending rest (Some at) e h).1
+
+  pub turned : (whole : Option (Derivation R N)) (order pending rest order' pending' : List ℕ) (at w : ℕ) (y : Way R) → pending ≡ rest ++ at ∷ [] → AreSolved (status_at m) (length ps) pending
+      → Rebuilds ps ws whole (reverse order) (map derived pending) → IsTaken (unsolved_at m) ps at w → slice_get ws w ≡ Some y → order' ≡ order ++ w ∷ []
+      → pending' ≡ rest ++ run_from y.parts.first y.parts.count → Turned whole order' pending' pending
+  turned whole order pending rest order' pending' at w y e h r t f a b =
+      let below : at < length ps = (last_solved pending rest at e h).0 in
+      let others : AreSolved (status_at m) (length ps) rest = (All-pop (λ k. (k < length ps) × (status_at m k ≡ is_solved)) pending rest (Some at) e h).0 in
+      let done : Turned whole (order ++ w ∷ []) (rest ++ run_from y.parts.first y.parts.count) (rest ++ at ∷ []) =
+      turned_by whole order rest at w t (gives root ps ws m arena at w below t) others (subst (λ (xs : List ℕ). Rebuilds ps ws whole (reverse order) (map derived xs)) e r) y f
+      in
+      subst (λ (xs : List ℕ). Turned whole order' pending' xs) (sym e)
+      (subst (λ (xs : List ℕ). Turned whole order' xs (rest ++ at ∷ [])) (sym b)
+      (subst (λ (xs : List ℕ). Turned whole xs (rest ++ run_from y.parts.first y.parts.count) (rest ++ at ∷ [])) (sym a) done))
+
+  -- the way that is taken is there
+  pub way_there : (at w : ℕ) → IsTaken (unsolved_at m) ps at w → w < length ws
+  way_there at w t =
+      let runs : t.run.first + t.run.count ≤ length ws = arena.linked.runs at t.place t.run t.found t.ways in
+      let high : w < t.run.first + t.run.count = t.first.inside.high in
+      omega arith
+
+pub derived_same : {R N : Type 0} {n n' : N} {r r' : R} {ds ds' : Derivations R N} → n ≡ n' → r ≡ r' → ds ≡ ds' → Derived n r ds ≡ Derived n' r' ds'
+derived_same e f g i = Derived (e i) (f i) (g i)
+
+-- ---- runs of numbers, one after the other
+
+pub push_front : (xs ys : List ℕ) (x : ℕ) → (xs ++ x ∷ []) ++ ys ≡ xs ++ x ∷ ys
+push_front [] ys x = refl
+push_front (z ∷ xs) ys x = ap (λ (l : List ℕ). z ∷ l) (push_front xs ys x)
+
+run_by : (n e c : ℕ) → n < e → e - n ≡ c → run_from n c ≡ n ∷ run_from (n + 1) (e - (n + 1))
+run_by n e zero l h = absurd (omega arith)
+run_by n e (suc c) l h =
+    let one : suc n ≡ n + 1 = omega arith in
+    let left : c ≡ e - (n + 1) = omega arith in
+    (λ i. n ∷ run_from (one i) (left i))
+
+pub run_next : (n e : ℕ) → n < e → run_from n (e - n) ≡ n ∷ run_from (n + 1) (e - (n + 1))
+run_next n e l = run_by n e (e - n) l refl
+
 -- ---- putting together
 
 take_front : {A : Type 0} (xs ys : List A) → take (length xs) (xs ++ ys) ≡ xs
@@ -66,6 +128,18 @@ same_some (s ∷ ss) (d ∷ ds) e =
 
 all_some : {R N : Type 0} (ss : List (Solved R N)) (ds : List (Derivation R N)) → made_of ss ≡ map (λ d. Some d) ds → plain_derivations ss ≡ derivations_of ds
 all_some ss ds e = ap derivations_of (same_some ss ds e)
+
+made_take : {R N : Type 0} (k : ℕ) (ss : List (Solved R N)) → made_of (take k ss) ≡ take k (made_of ss)
+made_take zero ss = refl
+made_take (suc k) [] = refl
+made_take (suc k) (s ∷ ss) = ap (λ (l : List (Option (Derivation _ _))). Some (plain_derivation s) ∷ l) (made_take k ss)
+
+-- the last derivations became the parts of one
+pub join_made : {R N : Type 0} (old front parts new : List (Solved R N)) (s : Solved R N) (k l : ℕ) (n : N) (r : R) → front ≡ take k old → parts ≡ drop k old → k ≡ l → new ≡ front ++ s ∷ []
+    → plain_derivation s ≡ Derived n r (plain_derivations parts) → made_of new ≡ take l (made_of old) ++ Some (Derived n r (plain_derivations (drop l old))) ∷ []
+join_made old front parts new s k l n r e f same g h =
+    ap made_of g ∙ map-append (λ s. Some (plain_derivation s)) front (s ∷ [])
+    ∙ (λ i. (ap made_of e ∙ made_take k old ∙ ap (λ (j : ℕ). take j (made_of old)) same) i ++ Some ((h ∙ ap (λ (xs : List (Solved _ _)). Derived n r (plain_derivations xs)) (f ∙ ap (λ (j : ℕ). drop j old) same)) i) ∷ [])
 
 module _ {R N : Type 0} (ps : List (Place N)) (ws : List (Way R)) (whole : Option (Derivation R N)) where
   -- the next way is there, and has no more premises than derivations are made

@@ -5,7 +5,7 @@ use Rattle.std.specs.List.{slice_get}
 use Rattle.std.specs.declared.alloc.Global.{Global}
 use Rattle.std.proofs.lemmas.Bool.{cases_lt}
 use Rattle.std.proofs.lemmas.Option.{slice_get_read}
-use Rattle.cyp_space.specs.Alts.{AltOf}
+use Rattle.cyp_space.specs.Alts.{AltOf, premises_in}
 use Rattle.cyp_tree.specs.declared.mark.Mark.{Mark}
 use Rattle.cyp_tree.specs.declared.places.Run.{Run}
 use Rattle.cyp_tree.specs.declared.places.Place.{Place}
@@ -14,7 +14,7 @@ use Rattle.cyp_tree.specs.declared.marks.Marks.{Marks}
 use Rattle.cyp_tree.specs.Standing.{IsIn, GoesDown}
 use Rattle.cyp_tree.specs.Marked.{reached_at}
 use Rattle.cyp_tree.specs.Dying.{times, bit, trues, IsBuried}
-use Rattle.cyp_tree.specs.Enlarged.{new_ways, way_places, new_places, premises_in, with_ways, grown_places, grown_ways, fresh_status, AreBorn, AreCheap}
+use Rattle.cyp_tree.specs.Enlarged.{new_ways, way_places, new_places, with_ways, grown_places, grown_ways, fresh_status, AreBorn, AreCheap}
 use Rattle.cyp_tree.specs.Arenas.{one_grown, grown_in, IsArena, IsLeafPlace, AreLeavesOf, IsMade, IsMadeFor, HasGrafted, IsUnsettled}
 use Rattle.cyp_tree.proofs.Runs.{there_below, get_append, get_append_right}
 use Rattle.cyp_tree.proofs.Retiring.{bit_true, bit_le, bit_false, true_within}

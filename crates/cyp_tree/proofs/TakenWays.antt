@@ -121,35 +121,47 @@ module _ {R N : Type 0} (root : N) (ps : List (Place N)) (ws : List (Way R)) (m 
         sizes = ap (λ (n : ℕ). total size_of (run_from j n)) e ∙ (λ i. size (is i) + rest.sizes i);
       }
 
+  -- the derivation by this way is chosen among these alternatives
+  record IsChosen (n : N) (y : Way R) (as' : Alts R N) : Type 0 where
+    each : List (Derivation R N)
+    chosen : chosen_alt n as' ≡ Some (Derived n y.rule (derivations_of each))
+    are : map (derived_at root ps ws) (run_from y.parts.first y.parts.count) ≡ map (λ d. Some d) each
+    long : length each ≡ y.parts.count
+    sizes : total size_of (run_from y.parts.first y.parts.count) ≤ alts_size as'
+
   -- the alternative at this place among others, none of which before it is solved, is chosen
   chosen_at : (n : N) (i : ℕ) (ys : List (Way R)) (y : Way R) (as' : Alts R N) → AltsStand ps ws ys as' → slice_get ys i ≡ Some y
       → ((v : ℕ) (z : Way R) → v < i → slice_get ys v ≡ Some z → way_sum (status_at m) z ≡ Solved → ⊥)
       → ((qs : Parts R N) → PartsStand ps ws y.parts.first y.parts.count qs → HaveDerived y.parts.first y.parts.count qs)
-      → (ds : List (Derivation R N)) × (chosen_alt n as' ≡ Some (Derived n y.rule (derivations_of ds))) × (map (derived_at root ps ws) (run_from y.parts.first y.parts.count) ≡ map (λ d. Some d) ds)
-      × (length ds ≡ y.parts.count) × (total size_of (run_from y.parts.first y.parts.count) ≤ alts_size as')
+      → IsChosen n y as'
   chosen_at n i ys y NoAlt e g none have = absurd (let bad : None ≡ Some y = sym (ap (λ (l : List (Way R)). slice_get l i) e) ∙ g in cc)
   chosen_at n zero ys y (AltThen r d qs as') (w, more, e, x, b, p, z) g none have =
       let same : w ≡ y = (let eq : Some w ≡ Some y = sym (ap (λ (l : List (Way R)). slice_get l 0) e) ∙ g in cc) in
       let p' : PartsStand ps ws y.parts.first y.parts.count qs = subst (λ (v : Way R). PartsStand ps ws v.parts.first v.parts.count qs) same p in
       let rule : r ≡ y.rule = sym x ∙ ap (λ (v : Way R). v.rule) same in
-      let h : HaveDerived y.parts.first y.parts.count qs = have qs p' in (
-        h.each,
-        (λ i. derived_or n (rule i) (h.chosen i) (chosen_alt n as')),
-        h.are,
-        h.long,
-        omega (arith, h.sizes),
-      )
+      let h : HaveDerived y.parts.first y.parts.count qs = have qs p' in
+      record {
+        each = h.each;
+        chosen = (λ i. derived_or n (rule i) (h.chosen i) (chosen_alt n as'));
+        are = h.are;
+        long = h.long;
+        sizes = omega (arith, h.sizes);
+      }
   chosen_at n (suc i) ys y (AltThen r d qs as') (w, more, e, x, b, p, z) g none have =
       let first : slice_get ys 0 ≡ Some w = ap (λ (l : List (Way R)). slice_get l 0) e in
       let unsolved : parts_status qs ≡ Solved → ⊥ = (λ q. none 0 w (omega arith) first (sym (parts_told (status_at m) ps ws arena.told w.parts.first w.parts.count qs p) ∙ q)) in
       let skipped : chosen_parts qs ≡ None = no_parts_by qs (chosen_parts qs) refl unsolved in
-      let rest : (ds : List (Derivation R N)) × (chosen_alt n as' ≡ Some (Derived n y.rule (derivations_of ds)))
-      × (map (derived_at root ps ws) (run_from y.parts.first y.parts.count) ≡ map (λ d. Some d) ds) × (length ds ≡ y.parts.count)
-      × (total size_of (run_from y.parts.first y.parts.count) ≤ alts_size as') =
+      let rest : IsChosen n y as' =
       chosen_at n i more y as' z (sym (ap (λ (l : List (Way R)). slice_get l (suc i)) e) ∙ g)
       (λ v u l f. none (suc v) u (omega arith) (ap (λ (l : List (Way R)). slice_get l (suc v)) e ∙ f)) have
       in
-      (rest.0, ap (λ (o : Option (Derivations R N)). derived_or n r o (chosen_alt n as')) skipped ∙ rest.1, rest.2, rest.3, omega (arith, rest.4))
+      record {
+        each = rest.each;
+        chosen = ap (λ (o : Option (Derivations R N)). derived_or n r o (chosen_alt n as')) skipped ∙ rest.chosen;
+        are = rest.are;
+        long = rest.long;
+        sizes = omega (arith, rest.sizes);
+      }
 
   -- what the way that a solved place takes gives
   pub record Gives (at w : ℕ) (p : Place N) : Type 0 where
@@ -163,6 +175,21 @@ module _ {R N : Type 0} (root : N) (ps : List (Place N)) (ws : List (Way R)) (m 
     pub solved : AreSolved (status_at m) (length ps) (run_from y.parts.first y.parts.count)
     pub fits : y.parts.first + y.parts.count ≤ length ps
     pub smaller : total size_of (run_from y.parts.first y.parts.count) < size_of at
+
+  gives_of : (at w j : ℕ) (p : Place N) (y : Way R) (n : N) (as' : Alts R N) → slice_get ws w ≡ Some y → y.above ≡ at → tree at ≡ Grown j n as' → n ≡ p.node → IsChosen n y as'
+      → ((i : ℕ) → y.parts.first ≤ i → i < y.parts.first + y.parts.count → status_at m i ≡ Solved) → y.parts.first + y.parts.count ≤ length ps → Gives at w p
+  gives_of at w j p y n as' g above is node h each fits = record {
+    y = y;
+    way = g;
+    above = above;
+    each = h.each;
+    derived = ap chosen_derivation is ∙ (h.chosen ∙ ap (λ (n : N). Some (Derived n y.rule (derivations_of h.each))) node);
+    are = h.are;
+    long = h.long;
+    solved = all_run (λ i. (i < length ps) × (status_at m i ≡ Solved)) y.parts.first y.parts.count (λ i l u. (omega arith, each i l u));
+    fits = fits;
+    smaller = omega (arith, h.sizes, ap size is);
+  }
 
   gives_by : (at w : ℕ) (p : Place N) (r : Run) (y : Way R) (t : Tree R N) → at < length ps → slice_get ps at ≡ Some p → p.ways ≡ Some r → IsFirstSolved (unsolved_at m) r w → slice_get ws w ≡ Some y
       → Stands ps ws at t → Gives at w p
@@ -179,26 +206,14 @@ module _ {R N : Type 0} (root : N) (ps : List (Place N)) (ws : List (Way R)) (m 
       let each : (i : ℕ) → y.parts.first ≤ i → i < y.parts.first + y.parts.count → status_at m i ≡ Solved = each_solved (status_at m) y.parts.first y.parts.count solved in
       let is : tree at ≡ Grown j n as' = is_tree at (Grown j n as') h (a, (q, v, b, x, z, all)) in
       let node : n ≡ p.node = sym x ∙ sym (ap (λ (v : Place N). v.node) same) in
-      let h : (ds : List (Derivation R N)) × (chosen_alt n as' ≡ Some (Derived n y.rule (derivations_of ds))) × (map (derived_at root ps ws) (run_from y.parts.first y.parts.count) ≡ map (λ d. Some d) ds)
-      × (length ds ≡ y.parts.count) × (total size_of (run_from y.parts.first y.parts.count) ≤ alts_size as') =
+      let chosen : IsChosen n y as' =
       chosen_at n (w - r.first) (run_of ws r) y as' all' (get_run_at r.first r.count w ws y low high g)
       (λ i u l f s.
       let at : (i < r.count) × (slice_get ws (r.first + i) ≡ Some u) = get_run r.first r.count i ws u f in
       absurd (omega (arith, k.first (r.first + i) (omega arith) (omega arith), arena.counted.ways (r.first + i) u at.1, solved_zero (status_at m) u.parts.first u.parts.count s)))
       (λ qs s. parts_derived y.parts.first y.parts.count qs s fits each)
       in
-      record {
-        y = y;
-        way = g;
-        above = arena.linked.run_above at p r w y e f k.inside g;
-        each = h.0;
-        derived = ap chosen_derivation is ∙ h.1 ∙ ap (λ (n : N). Some (Derived n y.rule (derivations_of h.0))) node;
-        are = h.2;
-        long = h.3;
-        solved = all_run (λ i. (i < length ps) × (status_at m i ≡ Solved)) y.parts.first y.parts.count (λ i l u. (omega arith, each i l u));
-        fits = fits;
-        smaller = omega (arith, h.4, ap size is);
-      }
+      gives_of at w j p y n as' g (arena.linked.run_above at p r w y e f k.inside g) is node chosen each fits
 
   pub gives : (at w : ℕ) → at < length ps → (t : IsTaken (unsolved_at m) ps at w) → Gives at w t.place
   gives at w h t =

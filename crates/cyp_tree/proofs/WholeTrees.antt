@@ -2,7 +2,7 @@
 use Rattle.std.proofs.Common.{◌≡◌, refl, sym, ◌∙◌, ap, subst, ℕ, ◌+◌, ◌≤◌, ◌<◌, true, false, List, [], ◌∷◌, length, Some, None, arith}
 use Rattle.std.specs.List.{slice_get}
 use Rattle.std.proofs.lemmas.Option.{slice_get-get_or, get_or_from_slice_get}
-use Rattle.cyp_space.specs.Alts.{AltOf}
+use Rattle.cyp_space.specs.Alts.{AltOf, premises_in}
 use Rattle.cyp_tree.specs.declared.places.Place.{Place}
 use Rattle.cyp_tree.specs.declared.places.Way.{Way}
 use Rattle.cyp_tree.specs.declared.marks.Marks.{Marks}
@@ -15,7 +15,7 @@ use Rattle.cyp_tree.specs.Places.{IsLive}
 use Rattle.cyp_tree.specs.Standing.{Stands, standing}
 use Rattle.cyp_tree.specs.Marked.{status_at, reached_at}
 use Rattle.cyp_tree.specs.Dying.{times}
-use Rattle.cyp_tree.specs.Enlarged.{premises_in, grown_places, AreSame}
+use Rattle.cyp_tree.specs.Enlarged.{grown_places, AreSame}
 use Rattle.cyp_tree.specs.Arenas.{IsArena, IsLeafPlace, HasGrafted}
 use Rattle.cyp_tree.specs.Wholes.{IsWhole, AreKilled}
 use Rattle.cyp_tree.proofs.Runs.{there_below}
@@ -31,7 +31,7 @@ use Rattle.cyp_tree.proofs.Same.{arena_as}
 use Rattle.cyp_tree.proofs.Retiring.{true_within}
 use Rattle.cyp_tree.proofs.Enlarging.{other_places}
 use Rattle.cyp_tree.proofs.Linking.{TheLeaf, Another, NewOne, place_from, length_places}
-use Rattle.cyp_tree.proofs.LiveLeaf.{live_leaf_at}
+use Rattle.cyp_tree.proofs.LiveLeaf.{live_leaf_at, grown_size}
 
 module _ {R N : Type 0} (root : N) (ps : List (Place N)) (ws : List (Way R)) (m : Marks) (arena : IsArena ps ws m) where
   abbrev whole : Tree R N
@@ -56,10 +56,6 @@ module _ {R N : Type 0} (root : N) (ps : List (Place N)) (ws : List (Way R)) (m 
   pub here_live : (k : ℕ) → reached_at m k ≡ true → IsLeafPlace ps k → IsLive whole k
   here_live k r p = live_listed (λ _. 0) k 0 whole (reached_live (status_at m) (reached_at m) ps ws arena.linked arena.told arena.reached k whole stands r p)
 
-alts_size-new : {R N : Type 0} (k : ℕ) (as' : List (AltOf R N)) → alts_size (new_alts k as') ≡ premises_in as'
-alts_size-new k [] = refl
-alts_size-new {R = R} k (a ∷ as') = (λ i. parts_size-new R k a.premises i + alts_size-new (k + length a.premises) as' i)
-
 module _ {R N : Type 0} (root : N) (ps : List (Place N)) (ws : List (Way R)) (m : Marks) (whole_is : IsWhole root ps ws m) (leaf : ℕ) (as' : List (AltOf R N)) (live : IsLive (standing root ps ws) leaf) where
   abbrev t : Tree R N
   t = standing root ps ws
@@ -73,11 +69,11 @@ module _ {R N : Type 0} (root : N) (ps : List (Place N)) (ws : List (Way R)) (m 
   one_leaf : leaves leaf t ≡ 1
   one_leaf = live_leaf_at t leaf whole_is.numbered live
 
-  grown_size : size u ≡ size t + premises_in as'
-  grown_size = (let all = size-graft leaf (new_alts (size t) as') t in let one = rw one_leaf at all in omega (arith, one, alts_size-new (size t) as'))
+  more : size u ≡ size t + premises_in as'
+  more = grown_size t leaf as' whole_is.numbered live
 
   pub few_places : size u ≤ 1000000 → length ps + premises_in as' ≤ 1000000
-  few_places h = omega (arith, grown_size, whole_is.counted)
+  few_places h = omega (arith, more, whole_is.counted)
 
   module _ (root' : N) (qs : List (Place N)) (zs : List (Way R)) (o : Marks) (killed : List ℕ) (h : HasGrafted leaf as' ps ws m qs zs o killed) where
     places_are : qs ≡ grown_places leaf here.1.0 (length ws) as' ps
@@ -100,7 +96,7 @@ module _ {R N : Type 0} (root : N) (ps : List (Place N)) (ws : List (Way R)) (m 
     whole_grown = record {
       arena = h.arena;
       numbered = subst (λ (x : Tree R N). IsNumbered x) (sym is_grafted) (grafted_numbered t leaf as' whole_is.numbered);
-      counted = ap size is_grafted ∙ grown_size ∙ ap (λ (k : ℕ). k + premises_in as') whole_is.counted ∙ sym long;
+      counted = ap size is_grafted ∙ more ∙ ap (λ (k : ℕ). k + premises_in as') whole_is.counted ∙ sym long;
     }
 
     live_now : (k : ℕ) → IsLive u k → IsLive (standing root' qs zs) k

@@ -2,7 +2,7 @@
 use Rattle.std.specs.Prelude.{◌≡◌, ℕ, suc, ◌+◌, ◌*◌, ◌<◌, ◌≤◌, ◌⊎◌, List, [], ◌∷◌, ◌++◌, length, true, false, Option, Some, None, Vec, vec_capacity}
 use Rattle.std.specs.List.{slice_get}
 use Rattle.std.specs.declared.alloc.Global.{Global}
-use Rattle.cyp_space.specs.Alts.{AltOf}
+use Rattle.cyp_space.specs.Alts.{AltOf, premises_in}
 use Rattle.cyp_tree.specs.declared.mark.Mark.{Mark}
 use Rattle.cyp_tree.specs.declared.mark.Mark.TheVariants.{Undecided}
 use Rattle.cyp_tree.specs.declared.places.Run.{Run}
@@ -12,7 +12,7 @@ use Rattle.cyp_tree.specs.declared.marks.Marks.{Marks}
 use Rattle.cyp_tree.specs.Standing.{IsLinked}
 use Rattle.cyp_tree.specs.Told.{IsTold, IsToldBut, AreCounted, AreReached}
 use Rattle.cyp_tree.specs.Marked.{status_at, reached_at, unsolved_at, unfailed_at, AreSized}
-use Rattle.cyp_tree.specs.Enlarged.{grown_places, grown_ways, premises_in, new_ways, new_places, AreCheap}
+use Rattle.cyp_tree.specs.Enlarged.{grown_places, grown_ways, new_ways, new_places, AreCheap}
 use Rattle.cyp_tree.specs.Dying.{times, trues}
 
 -- costs and lengths of paths are those of the ways on them

@@ -50,4 +50,4 @@ pub record Joins {R N : Type 0} (ps : List (Place N)) (ws : List (Way R)) (w : �
   pub way : slice_get ws w ≡ Some y
   pub place : slice_get ps y.above ≡ Some p
   pub joined : made_of new
-  ≡ take (length old - y.parts.count) (made_of old) ++ Some (Derived p.node y.rule (plain_derivations (drop (length old - y.parts.count) old))) ∷ []
+      ≡ take (length old - y.parts.count) (made_of old) ++ Some (Derived p.node y.rule (plain_derivations (drop (length old - y.parts.count) old))) ∷ []

@@ -1,7 +1,7 @@
 -- What an arena's lists become when moves are put at a leaf.
 use Rattle.std.specs.Prelude.{vec_len, vec_capacity, ◌≡◌, ℕ, suc, ◌+◌, ◌<◌, ◌≤◌, true, List, [], ◌∷◌, ◌++◌, length, slice_set, Some, None}
 use Rattle.std.specs.List.{slice_get}
-use Rattle.cyp_space.specs.Alts.{AltOf}
+use Rattle.cyp_space.specs.Alts.{AltOf, premises_in}
 use Rattle.cyp_tree.specs.declared.mark.Mark.{Mark}
 use Rattle.cyp_tree.specs.declared.mark.Mark.TheVariants.{Undecided, Solved, Failed}
 use Rattle.cyp_tree.specs.declared.marks.Marks.{Marks}
@@ -25,11 +25,6 @@ way_places w c l (n ∷ ns) = record { node = n; above = w; cost = c; level = l;
 abbrev pub new_places : {R N : Type 0} → ℕ → ℕ → ℕ → List (AltOf R N) → List (Place N)
 new_places w c l [] = []
 new_places w c l (a ∷ as') = way_places w (c + a.cost) (suc l) a.premises ++ new_places (suc w) c l as'
-
--- how many premises moves have together
-abbrev pub premises_in : {R N : Type 0} → List (AltOf R N) → ℕ
-premises_in [] = 0
-premises_in (a ∷ as') = length a.premises + premises_in as'
 
 -- a leaf with a run of ways
 abbrev pub with_ways : {N : Type 0} → Place N → ℕ → ℕ → Place N

@@ -1,15 +1,16 @@
-ghost use Rattle.std.specs.Prelude.{◌≡◌, ◌+◌, ◌*◌, ◌++◌, ◌<◌, ◌≤◌, [], ◌∷◌, length, slice_set, true, Some, None, IfOk, OnOk, OnErr, IsTrue, vec_len, vec_capacity};
+ghost use Rattle.std.specs.Prelude.{◌≡◌, ◌+◌, ◌*◌, ◌++◌, ◌<◌, ◌≤◌, [], ◌∷◌, length, min, slice_set, true, Some, None, IfOk, OnOk, OnErr, IsTrue, vec_len, vec_capacity};
 ghost use Rattle.std.specs.List.{slice_get};
 ghost use Rattle.cyp_tree.specs.declared.places.Place.{Place};
-ghost use Rattle.cyp_tree.specs.Enlarged.{with_ways, premises_in, HaveRoom, AreSame};
+ghost use Rattle.cyp_space.specs.Alts.{premises_in};
+ghost use Rattle.cyp_tree.specs.Enlarged.{with_ways, HaveRoom, AreSame};
 ghost use Rattle.cyp_tree.specs.Marked.{reached_at};
 ghost use Rattle.cyp_tree.specs.Arenas.{IsArena, IsLeafPlace, AreLeavesOf, ListsLeaf, IsMade, IsMadeFor, HasGrafted, IsRootArena};
 ghost use Rattle.cyp_tree.specs.Numbers.{Rises};
 
 use crate::marks::Marks;
-use crate::newborn::{count_of_premises, fresh_status, new_places, new_ways};
+use crate::newborn::{fresh_status, new_places, new_ways};
 use crate::places::{Place, Run, Way};
-use cyp_space::Alt;
+use cyp_space::{Alt, count_of_premises};
 use cyp_term::{Copied, NoMemory, Shared};
 use std::alloc::Global;
 
@@ -245,5 +246,16 @@ impl<R, N> Arena<R, N> {
             return false;
         }
         self.marks.reached[leaf as usize]
+    }
+
+    /// The level of the premises that alternatives put at a leaf have, or that of the leaf where they
+    /// have none.
+    pub fn level_below(&self, leaf: u32, alts: &[Alt<R, N>]) -> u32
+        requires arena { IsArena self.now.places.items self.now.ways.items self.now.marks }
+        requires leaf { IsLeafPlace self.now.places.items leaf }
+        requires alts { length alts.now ≤ 48 }
+        ensures { (p : Place N) → slice_get self.now.places.items leaf ≡ Some p → result ≡ p.level + min 1 (premises_in alts.now) }
+    {
+        self.places[leaf as usize].level + count_of_premises(alts).min(1)
     }
 }

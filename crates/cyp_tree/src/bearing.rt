@@ -1,10 +1,11 @@
 ghost use Rattle.std.specs.Prelude.{◌≡◌, ◌+◌, ◌<◌, ◌≤◌, [], ◌∷◌, true, length, IfOk, OnOk, vec_len, vec_capacity};
 ghost use Rattle.cyp_tree.specs.declared.mark.Mark.TheVariants.{Undecided};
 ghost use Rattle.cyp_tree.specs.Marked.{AreSized};
-ghost use Rattle.cyp_tree.specs.Enlarged.{premises_in, AreBorn, HaveLeaves, HaveWays, HaveRoom, AreSame};
+ghost use Rattle.cyp_space.specs.Alts.{premises_in};
+ghost use Rattle.cyp_tree.specs.Enlarged.{AreBorn, HaveLeaves, HaveWays, HaveRoom, AreSame};
 
-use crate::marks::Marks;
 use crate::mark::Mark;
+use crate::marks::Marks;
 use cyp_space::Alt;
 use cyp_term::NoMemory;
 use std::alloc::Global;

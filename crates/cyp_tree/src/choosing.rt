@@ -1,4 +1,4 @@
-ghost use Rattle.std.specs.Prelude.{◌≡◌, [], ◌++◌, ◌+◌, ◌<◌, ◌≤◌, length, reverse, IfOk, OnOk};
+ghost use Rattle.std.specs.Prelude.{◌≡◌, ℕ, [], ◌++◌, ◌+◌, ◌<◌, ◌≤◌, length, reverse, IfOk, OnOk};
 ghost use Rattle.std.specs.List.{slice_get};
 ghost use Rattle.std.specs.Option.{option_map};
 ghost use Rattle.cyp_tree.specs.declared.mark.Mark.TheVariants.{Solved as is_solved};
@@ -79,12 +79,7 @@ impl<R, N> Arena<R, N> {
 
 impl<R: Copied + Drop, N: Drop> Arena<R, N> {
     /// Makes of the last derivations, one for each premise of a way, that of the way's node.
-    fn join(
-        &self,
-        alloc: Global,
-        way: u32,
-        made: &mut Vec<Solved<R, N>>,
-    ) -> Result<(), NoMemory>
+    fn join(&self, alloc: Global, way: u32, made: &mut Vec<Solved<R, N>>) -> Result<(), NoMemory>
         requires linked { IsLinked self.now.places.items self.now.ways.items }
         requires below { way < length self.now.ways.items }
         requires enough { (y : Way R) → slice_get self.now.ways.items way ≡ Some y → y.parts.count ≤ length made.old.items }

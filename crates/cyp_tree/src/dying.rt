@@ -5,9 +5,9 @@ ghost use Rattle.cyp_tree.specs.Told.{IsTold, IsToldBut, AreCounted, AreReached}
 ghost use Rattle.cyp_tree.specs.Marked.{status_at, reached_at, unsolved_at, unfailed_at, AreSized, IsOpenAbove, DecidesNode};
 ghost use Rattle.cyp_tree.specs.Dying.{trues, Retired, IsPremise, AreWithin, IsUnder, IsBeside, IsNoted, Sweeping, IsSwept, IsBuried};
 
+use crate::mark::Mark;
 use crate::marks::{Marks, above_of};
 use crate::places::{Place, Run, Way};
-use crate::mark::Mark;
 
 impl Marks {
     /// Takes a node from those that are reached, and lists it, if it is one of them.

@@ -3,6 +3,7 @@
 
 mod arena;
 mod bearing;
+mod choosing;
 mod dying;
 mod grafted;
 mod laws;
@@ -15,7 +16,8 @@ mod tree;
 pub use grafted::Grafted;
 pub use laws::{
     decided_tree_stays, grafted_size_adds_up, grafted_tree_is_numbered, grafted_tree_is_rising,
-    live_leaf_is_one_leaf, live_leaf_was_live, new_numbers_are_a_run, next_leaf_is_one_leaf,
+    grown_leaf_adds_premises, live_leaf_has_its_place, live_leaf_is_one_leaf, live_leaf_was_live,
+    live_leaves_for_any_weight, new_numbers_are_a_run, next_leaf_is_one_leaf, number_has_one_place,
     open_tree_has_a_next_leaf, solved_tree_has_a_derivation,
 };
 pub use mark::Mark;

@@ -4,8 +4,8 @@ ghost use Rattle.cyp_tree.specs.Standing.{IsLinked, IsUp};
 ghost use Rattle.cyp_tree.specs.Told.{IsToldBut, AreCounted};
 ghost use Rattle.cyp_tree.specs.Marked.{status_at, unsolved_at, unfailed_at, AreSized, IsOpenAbove, DecidesNode};
 
-use crate::places::{Place, Way};
 use crate::mark::Mark;
+use crate::places::{Place, Way};
 
 /// What is known of the nodes and ways of an arena, by their numbers: whether a node is open, and
 /// reached, that is under open nodes alone by ways that have not failed; how many ways of a node

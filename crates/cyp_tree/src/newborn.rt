@@ -1,24 +1,12 @@
 ghost use Rattle.std.specs.Prelude.{◌≡◌, ◌+◌, ◌++◌, ◌<◌, ◌≤◌, length, IfOk, OnOk};
-ghost use Rattle.cyp_tree.specs.Enlarged.{new_ways, way_places, new_places, premises_in, fresh_status, AreCheap};
+ghost use Rattle.cyp_space.specs.Alts.{premises_in};
+ghost use Rattle.cyp_tree.specs.Enlarged.{new_ways, way_places, new_places, fresh_status, AreCheap};
 
-use crate::places::{Place, Run, Way};
 use crate::mark::Mark;
+use crate::places::{Place, Run, Way};
 use cyp_space::Alt;
 use cyp_term::{Copied, NoMemory, Shared};
 use std::alloc::Global;
-
-/// How many premises the alternatives have together.
-pub fn count_of_premises<R, N>(alts: &[Alt<R, N>]) -> u32
-    requires { length alts.now ≤ 48 }
-    ensures value { result ≡ premises_in alts.now }
-    ensures bound { result ≤ 12240 }
-{
-    let mut count = 0;
-    for alt in alts {
-        count += alt.premises().len() as u32;
-    }
-    count
-}
 
 /// The status of a node with these alternatives, whose premises are leaves.
 pub fn fresh_status<R, N>(alts: &[Alt<R, N>]) -> Mark

@@ -1,7 +1,10 @@
-ghost use Rattle.std.specs.Prelude.{◌≡◌, ℕ, ◌≤◌, ◌<◌, ◌↔◌, IsTrue, IfOk, OnOk, OnErr, [], ◌∷◌};
+ghost use Rattle.std.specs.Prelude.{◌≡◌, ℕ, ◌≤◌, ◌<◌, ◌↔◌, IsTrue, IsSome, IfOk, OnOk, OnErr, [], ◌∷◌};
+ghost use Rattle.std.specs.Option.{option_map};
+ghost use Rattle.cyp_tree.specs.declared.mark.Mark.TheVariants.{Solved as is_solved};
 ghost use Rattle.cyp_tree.specs.Trees.{Leaf};
 ghost use Rattle.cyp_tree.specs.Statuses.{status};
-ghost use Rattle.cyp_tree.specs.Sizes.{size};
+ghost use Rattle.cyp_tree.specs.Sizes.{size, depth};
+ghost use Rattle.cyp_tree.specs.Derivations.{plain_derivation, chosen_derivation};
 ghost use Rattle.cyp_tree.specs.Growing.{graft, new_alts};
 ghost use Rattle.cyp_tree.specs.Numbers.{IsNumbered};
 ghost use Rattle.cyp_tree.specs.Places.{IsLive, HasPlace};
@@ -10,7 +13,7 @@ ghost use Rattle.cyp_tree.specs.Wholes.{AreKilled};
 use crate::arena::Arena;
 use crate::grafted::Grafted;
 use crate::mark::Mark;
-use cyp_space::Moves;
+use cyp_space::{Moves, Solved};
 use cyp_term::{Copied, List, NoMemory, Shared};
 use std::alloc::Global;
 use std::marker::Model;
@@ -19,13 +22,14 @@ use std::marker::Model;
 #[derive(Drop)]
 pub struct Tree<R, N> {
     arena: Arena<R, N>,
+    deepest: u32,
 }
 
 impl<R, N> Model for Tree<R, N> {
     ghost use Rattle.cyp_tree.specs.Trees.{Tree as WholeTree};
     ghost use Rattle.cyp_tree.specs.Codes.{tree_code};
     ghost use Rattle.cyp_tree.specs.Standing.{standing};
-    ghost use Rattle.cyp_tree.specs.Wholes.{IsWhole};
+    ghost use Rattle.cyp_tree.specs.Wholes.{IsTree};
 
     ghost Value = { WholeTree R N };
 
@@ -33,7 +37,7 @@ impl<R, N> Model for Tree<R, N> {
 
     ghost view = { λ a. standing a.arena.root a.arena.places.items a.arena.ways.items };
 
-    ghost invariant = { λ a. IsWhole a.arena.root a.arena.places.items a.arena.ways.items a.arena.marks };
+    ghost invariant = { λ a. IsTree a.arena.root a.arena.places.items a.arena.ways.items a.arena.marks a.deepest };
 }
 
 impl<R, N> Tree<R, N> {
@@ -58,6 +62,13 @@ impl<R, N> Tree<R, N> {
         ensures numbered { IsNumbered self.now }
     {
         self.arena.places.len() as u32
+    }
+
+    /// The most expansions on a path from the root to a node, that of the node itself not counted.
+    pub fn depth(&self) -> u32
+        ensures { result ≡ depth self.now }
+    {
+        self.deepest
     }
 }
 
@@ -86,7 +97,7 @@ impl<R: Drop, N: Drop> Tree<R, N> {
         ensures { IfOk result (λ t. t ≡ Leaf 0 root) }
     {
         let arena = Arena::new(alloc, root)?;
-        Ok(Tree { arena })
+        Ok(Tree { arena, deepest: 0 })
     }
 }
 
@@ -105,11 +116,28 @@ impl<R: Copied + Drop, N: Drop> Tree<R, N> {
         ensures killed { IfOk result (λ g. AreKilled leaf self.old self.new g.killed) }
         ensures mark { IfOk result (λ g. g.mark ≡ status self.new) }
     {
-        let killed = self.arena.graft(alloc, leaf, moves.alts())?;
+        let alts = moves.alts();
+        let below = self.arena.level_below(leaf, alts);
+        let killed = self.arena.graft(alloc, leaf, alts)?;
+        self.deepest = self.deepest.max(below);
         let mark = self.arena.marks.statuses[0];
         Ok(Grafted {
             killed: List::from_vec(killed),
             mark,
         })
+    }
+
+    /// The derivation of a solved root, by the first alternatives whose premises are all solved.
+    pub fn chosen(&self, alloc: Global) -> Result<Option<Solved<R, N>>, NoMemory>
+        ensures derivation { IfOk result (λ d. option_map plain_derivation d ≡ chosen_derivation self.now) }
+        ensures solved { IfOk result (λ d. IsSome d ↔ (status self.now ≡ is_solved)) }
+    {
+        match self.arena.marks.statuses[0] {
+            Mark::Solved => {
+                let order = self.arena.taken_ways(alloc)?;
+                self.arena.rebuilt(alloc, order)
+            }
+            Mark::Undecided | Mark::Failed => Ok(None),
+        }
     }
 }

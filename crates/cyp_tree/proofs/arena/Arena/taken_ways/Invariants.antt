@@ -4,7 +4,7 @@ use Rattle.cyp_tree.specs.Choosing.{AreSolved, derived_at, Rebuilds}
 use Rattle.cyp_tree.proofs.TakenWays.{total}
 use Rattle.cyp_tree.specs.Standing.{tree_at}
 use Rattle.cyp_tree.specs.Sizes.{size}
-use Rattle.cyp_tree.proofs.choosing.Arena.taken_ways.Given as goal
+use Rattle.cyp_tree.proofs.arena.Arena.taken_ways.Given as goal
 
 abbrev pub invariant-loop-at : goal.invariant-loop-at
 invariant-loop-at g l = record {

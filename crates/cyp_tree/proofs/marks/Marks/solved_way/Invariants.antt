@@ -1,6 +1,6 @@
 use Rattle.std.proofs.Common.{ℕ, ◌+◌, ◌-◌, ◌≤◌, ◌<◌}
 use Rattle.cyp_tree.specs.Marked.{unsolved_at}
-use Rattle.cyp_tree.proofs.choosing.Marks.solved_way.Given as goal
+use Rattle.cyp_tree.proofs.marks.Marks.solved_way.Given as goal
 
 abbrev pub invariant-loop-way : goal.invariant-loop-way
 invariant-loop-way l = record { from : l.fn.run.first ≤ l.way; unsolved : (v : ℕ) → l.fn.run.first ≤ v → v < l.way → 0 < unsolved_at l.fn.self v }

@@ -1,6 +1,6 @@
 use Rattle.std.proofs.Common.{length, reverse}
 use Rattle.cyp_tree.specs.Choosing.{derived_at, Rebuilds, made_of}
-use Rattle.cyp_tree.proofs.choosing.Arena.rebuilt.Given as goal
+use Rattle.cyp_tree.proofs.arena.Arena.rebuilt.Given as goal
 
 abbrev pub invariant-loop-way : goal.invariant-loop-way
 invariant-loop-way g l =
