@@ -2,7 +2,6 @@
 use Rattle.std.proofs.Common.{◌≡◌, refl, sym, ◌∙◌, ap, subst, ℕ, zero, suc, ◌+◌, ◌≤◌, ◌<◌, ◌==◌, Bool, true, false, cond, List, [], ◌∷◌, length, Some, min, max, arith}
 use Rattle.std.specs.List.{slice_get}
 use Rattle.cyp_space.specs.Alts.{AltOf, premises_in}
-use Rattle.cyp_tree.specs.declared.places.Run.{Run}
 use Rattle.cyp_tree.specs.declared.places.Place.{Place}
 use Rattle.cyp_tree.specs.declared.places.Way.{Way}
 use Rattle.cyp_tree.specs.Trees.{Tree, Leaf, Grown, Alts, NoAlt, AltThen, Parts, NoPart, PartThen}

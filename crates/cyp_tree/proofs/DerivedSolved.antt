@@ -1,5 +1,6 @@
 -- A tree that has a derivation is solved.
-use Rattle.std.proofs.Common.{◌≡◌, refl, sym, ◌∙◌, ap, ◌↔◌, true, false, Option, Some, None, IsSome}
+use Rattle.std.proofs.Common.{◌≡◌, refl, ◌∙◌, ap, ◌↔◌, true, false, Option, Some, None, IsSome}
+use Rattle.std.specs.Prelude.{is_some}
 use Rattle.std.specs.Option.{option_map}
 use Rattle.cyp_space.specs.declared.solved.Solved.{Solved as SolvedBy}
 use Rattle.cyp_tree.specs.declared.mark.Mark.{Mark}
@@ -51,3 +52,11 @@ pub some_where_solved : {R N : Type 0} (t : Tree R N) (o : Option (SolvedBy R N)
 some_where_solved t o e =
     let both_ways : (IsSome o → IsSome (chosen_derivation t)) × (IsSome (chosen_derivation t) → IsSome o) = some_by o (chosen_derivation t) e in
     (λ h. derived_solved t (both_ways.0 h), λ h. both_ways.1 (has_derivation t h))
+
+none_by : {R N : Type 0} (t : Tree R N) (o : Option (Derivation R N)) → chosen_derivation t ≡ o → (status t ≡ Solved → ⊥) → None ≡ o
+none_by t None e h = refl
+none_by t (Some d) e h = absurd (h (derived_solved t (ap is_some e)))
+
+-- a tree that isn't solved has no derivation
+pub none_unsolved : {R N : Type 0} (t : Tree R N) → (status t ≡ Solved → ⊥) → None ≡ chosen_derivation t
+none_unsolved t h = none_by t (chosen_derivation t) refl h

@@ -1,5 +1,5 @@
 -- In a numbered tree a number has one place, and a live leaf stands at the place of its number.
-use Rattle.std.proofs.Common.{◌≡◌, refl, sym, ◌∙◌, ap, ℕ, zero, suc, ◌+◌, ◌≤◌, ◌<◌, ◌↔◌, inl, inr, List, [], ◌∷◌, ◌++◌, map, length, arith}
+use Rattle.std.proofs.Common.{◌≡◌, refl, sym, ◌∙◌, ap, ℕ, zero, suc, ◌+◌, ◌≤◌, ◌↔◌, inl, inr, List, [], ◌∷◌, ◌++◌, map, arith}
 use Rattle.std.specs.List.{Contains}
 use Rattle.std.proofs.lemmas.List.Elements.{Contains-append_left, Contains-append_right, Contains-append_cases}
 use Rattle.cyp_tree.specs.declared.mark.Mark.{Mark}
@@ -78,7 +78,7 @@ unfailed_in Undecided xs w h = h
 unfailed_in Solved xs w h = h
 unfailed_in Failed xs w h = absurd (nothing_in w h)
 
-module _ {R N : Type 0} (weight : N → ℕ) where
+module _ {N : Type 0} (weight : N → ℕ) where
   later : (p : Placed N) (ps : List (Placed N)) (w : Waiting N) → StandsAt weight ps w → StandsAt weight (p ∷ ps) w
   later p ps w (c, (i, h, e), f) = (c, (suc i, omega arith, e), f)
 
@@ -92,24 +92,25 @@ module _ {R N : Type 0} (weight : N → ℕ) where
   leaf_stands c k n w same =
       (c, (0, omega arith, (λ i. record { number = (same i).number; cost = c; node = (same i).node })), sym (ap (λ (x : Waiting N). x.priority) same) ∙ ap (λ (x : Waiting N). c + weight x.node) same)
 
+module _ {R N : Type 0} (weight : N → ℕ) where
   mutual
     pub live_stands : (c : ℕ) (t : Tree R N) (w : Waiting N) → Contains (live_leaves weight c t) w → StandsAt weight (placed c t) w
-    live_stands c (Leaf k n) w h = leaf_stands c k n w (only_one (record { priority = c + weight n; number = k; node = n }) w h)
-    live_stands c (Grown k n as') w h = later _ (alts_placed c as') w (alts_stand c as' w (open_in (alts_status as') (live_alts weight c as') w h))
+    live_stands c (Leaf k n) w h = leaf_stands weight c k n w (only_one (record { priority = c + weight n; number = k; node = n }) w h)
+    live_stands c (Grown k n as') w h = later weight _ (alts_placed c as') w (alts_stand c as' w (open_in (alts_status as') (live_alts weight c as') w h))
 
     alts_stand : (c : ℕ) (as' : Alts R N) (w : Waiting N) → Contains (live_alts weight c as') w → StandsAt weight (alts_placed c as') w
     alts_stand c NoAlt w h = absurd (nothing_in w h)
     alts_stand c (AltThen r d ps as') w h =
         elim (Contains-append_cases (unless_failed (parts_status ps) (live_parts weight (c + d) ps)) (live_alts weight c as') w h) [
-          | inl z ↦ left (parts_placed (c + d) ps) (alts_placed c as') w (parts_stand (c + d) ps w (unfailed_in (parts_status ps) (live_parts weight (c + d) ps) w z))
-          | inr z ↦ right (parts_placed (c + d) ps) (alts_placed c as') w (alts_stand c as' w z)
+          | inl z ↦ left weight (parts_placed (c + d) ps) (alts_placed c as') w (parts_stand (c + d) ps w (unfailed_in (parts_status ps) (live_parts weight (c + d) ps) w z))
+          | inr z ↦ right weight (parts_placed (c + d) ps) (alts_placed c as') w (alts_stand c as' w z)
         ]
 
     parts_stand : (c : ℕ) (ps : Parts R N) (w : Waiting N) → Contains (live_parts weight c ps) w → StandsAt weight (parts_placed c ps) w
     parts_stand c NoPart w h = absurd (nothing_in w h)
     parts_stand c (PartThen t ps) w h = elim (Contains-append_cases (live_leaves weight c t) (live_parts weight c ps) w h) [
-      | inl z ↦ left (placed c t) (parts_placed c ps) w (live_stands c t w z)
-      | inr z ↦ right (placed c t) (parts_placed c ps) w (parts_stand c ps w z)
+      | inl z ↦ left weight (placed c t) (parts_placed c ps) w (live_stands c t w z)
+      | inr z ↦ right weight (placed c t) (parts_placed c ps) w (parts_stand c ps w z)
     ]
 
   -- live leaves have the same numbers, whatever the weights

@@ -1,7 +1,7 @@
 -- A derivation put together way by way.
 use Rattle.std.proofs.Common.{◌≡◌, refl, sym, ◌∙◌, ap, subst, ℕ, zero, suc, ◌+◌, ◌-◌, ◌≤◌, ◌<◌, List, [], ◌∷◌, ◌++◌, map, take, drop, length, Option, Some, None, IsSome, false, true, arith}
 use Rattle.std.specs.Prelude.{reverse}
-use Rattle.std.specs.List.{slice_get, All}
+use Rattle.std.specs.List.{slice_get}
 use Rattle.std.specs.Option.{option_map, option_to_list}
 use Rattle.std.proofs.lemmas.List.{reverse-append, map-append, length-append, length-map, drop-map}
 use Rattle.cyp_space.specs.declared.solved.Solved.{Solved}
@@ -15,7 +15,6 @@ use Rattle.cyp_tree.specs.Derivations.{Derivation, Derivations, Derived, derivat
 use Rattle.cyp_tree.specs.Marked.{status_at, unsolved_at}
 use Rattle.cyp_tree.specs.Arenas.{IsArena}
 use Rattle.cyp_tree.specs.Choosing.{IsTaken, AreSolved, derived_at, Rebuilds, made_of, Joins}
-use Rattle.cyp_tree.proofs.Runs.{there_below}
 use Rattle.cyp_tree.proofs.TakenWays.{Gives, gives, total, total-append, size_of}
 
 -- ---- choosing: one more way, and its premises are pending in the place of its node

@@ -14,9 +14,9 @@ use Rattle.cyp_tree.specs.Trees.{Tree, Leaf, Grown, Alts, NoAlt, AltThen, Parts,
 use Rattle.cyp_tree.specs.Statuses.{either, both, status, parts_status}
 use Rattle.cyp_tree.specs.Sizes.{size, alts_size, parts_size}
 use Rattle.cyp_tree.specs.Numbers.{run_from}
-use Rattle.cyp_tree.specs.Derivations.{Derivation, Derivations, Derived, NoMore, More, derived_or, one_more, chosen_derivation, chosen_alt, chosen_parts, derivations_of}
+use Rattle.cyp_tree.specs.Derivations.{Derivation, Derivations, Derived, derived_or, one_more, chosen_derivation, chosen_alt, chosen_parts, derivations_of}
 use Rattle.cyp_tree.specs.Standing.{run_of, tree_at, Stands, AltsStand, PartsStand, IsIn}
-use Rattle.cyp_tree.specs.Told.{parts_sum, way_sum, ways_sum, node_sum, unsolved_from}
+use Rattle.cyp_tree.specs.Told.{parts_sum, way_sum, ways_sum, node_sum}
 use Rattle.cyp_tree.specs.Marked.{status_at, unsolved_at}
 use Rattle.cyp_tree.specs.Arenas.{IsArena}
 use Rattle.cyp_tree.specs.Choosing.{IsFirstSolved, IsTaken, AreSolved, derived_at}

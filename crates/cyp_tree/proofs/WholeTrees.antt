@@ -1,5 +1,5 @@
 -- What an arena's marks say of the whole tree, and what a graft makes of it.
-use Rattle.std.proofs.Common.{◌≡◌, refl, sym, ◌∙◌, ap, subst, ℕ, ◌+◌, ◌≤◌, ◌<◌, true, false, List, [], ◌∷◌, length, Some, None, arith}
+use Rattle.std.proofs.Common.{◌≡◌, sym, ◌∙◌, ap, subst, ℕ, ◌+◌, ◌≤◌, ◌<◌, true, false, List, length, Some, None, arith}
 use Rattle.std.specs.List.{slice_get}
 use Rattle.std.proofs.lemmas.Option.{slice_get-get_or, get_or_from_slice_get}
 use Rattle.cyp_space.specs.Alts.{AltOf, premises_in}
@@ -8,7 +8,7 @@ use Rattle.cyp_tree.specs.declared.places.Way.{Way}
 use Rattle.cyp_tree.specs.declared.marks.Marks.{Marks}
 use Rattle.cyp_tree.specs.Trees.{Tree}
 use Rattle.cyp_tree.specs.Statuses.{status}
-use Rattle.cyp_tree.specs.Sizes.{size, alts_size}
+use Rattle.cyp_tree.specs.Sizes.{size}
 use Rattle.cyp_tree.specs.Growing.{new_alts, graft}
 use Rattle.cyp_tree.specs.Numbers.{IsNumbered, leaves, Rises}
 use Rattle.cyp_tree.specs.Places.{IsLive}
@@ -24,8 +24,7 @@ use Rattle.cyp_tree.proofs.Telling.{status_told}
 use Rattle.cyp_tree.proofs.LiveIn.{LiveIn, live_listed, listed_live, live_is_open, live_reached, reached_live}
 use Rattle.cyp_tree.proofs.Retiring.{not_true, both_ways, there_listed, listed_there}
 use Rattle.cyp_tree.proofs.Enlarging.{stands_grafted, leaf_place}
-use Rattle.cyp_tree.proofs.NewNumbers.{grafted_numbered, parts_size-new}
-use Rattle.cyp_tree.proofs.Counting.{size-graft}
+use Rattle.cyp_tree.proofs.NewNumbers.{grafted_numbered}
 use Rattle.cyp_tree.specs.Enlarged.{with_ways}
 use Rattle.cyp_tree.proofs.Same.{arena_as}
 use Rattle.cyp_tree.proofs.Retiring.{true_within}

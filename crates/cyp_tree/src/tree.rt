@@ -132,12 +132,10 @@ impl<R: Copied + Drop, N: Drop> Tree<R, N> {
         ensures derivation { IfOk result (λ d. option_map plain_derivation d ≡ chosen_derivation self.now) }
         ensures solved { IfOk result (λ d. IsSome d ↔ (status self.now ≡ is_solved)) }
     {
-        match self.arena.marks.statuses[0] {
-            Mark::Solved => {
-                let order = self.arena.taken_ways(alloc)?;
-                self.arena.rebuilt(alloc, order)
-            }
-            Mark::Undecided | Mark::Failed => Ok(None),
-        }
+        let Mark::Solved = self.arena.marks.statuses[0] else {
+            return Ok(None);
+        };
+        let order = self.arena.taken_ways(alloc)?;
+        self.arena.rebuilt(alloc, order)
     }
 }

@@ -1,4 +1,4 @@
-use Rattle.std.proofs.Common.{◌≡◌, sym, ◌∙◌, ap, ℕ, ◌+◌, ◌-◌, ◌<◌, List, ◌++◌, arith}
+use Rattle.std.proofs.Common.{sym, ◌∙◌, ap, ℕ, ◌+◌, ◌-◌, ◌<◌, List, ◌++◌, arith}
 use Rattle.cyp_tree.specs.Numbers.{run_from}
 use Rattle.cyp_tree.proofs.Rebuilding.{push_front, run_next}
 use Rattle.cyp_tree.proofs.choosing.push_run.Goals as goal

@@ -1,8 +1,8 @@
-use Rattle.std.proofs.Common.{◌≡◌, refl, sym, ◌∙◌, ap, ◌-◌, length, Some, arith}
+use Rattle.std.proofs.Common.{◌≡◌, refl, ◌∙◌, ap, ◌-◌, length, Some, arith}
 use Rattle.std.specs.List.{slice_get}
 use Rattle.std.proofs.lemmas.Option.{slice_get_read}
 use Rattle.cyp_space.specs.declared.solved.Solved.TheFolds.{fold-roll-Solved}
-use Rattle.cyp_tree.specs.Derivations.{Derivation, Derived, plain_step, plain_derivations}
+use Rattle.cyp_tree.specs.Derivations.{Derivation, plain_step, plain_derivations}
 use Rattle.cyp_tree.proofs.Runs.{there_below}
 use Rattle.cyp_tree.proofs.Rebuilding.{join_made, derived_same}
 use Rattle.cyp_tree.proofs.arena.Arena.join.Goals as goal

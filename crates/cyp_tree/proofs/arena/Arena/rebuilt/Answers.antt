@@ -1,7 +1,6 @@
-use Rattle.std.proofs.Common.{◌≡◌, ◌∙◌, sym, subst, List, ℕ, reverse, Some, arith}
+use Rattle.std.proofs.Common.{subst, List, ℕ, reverse}
 use Rattle.cyp_tree.specs.Choosing.{derived_at, Rebuilds, made_of}
-use Rattle.cyp_tree.proofs.Runs.{there_below}
-use Rattle.cyp_tree.proofs.Rebuilding.{NextWay, next_way, joined, last_one}
+use Rattle.cyp_tree.proofs.Rebuilding.{joined}
 use Rattle.cyp_tree.proofs.arena.Arena.rebuilt.Goals as goal
 
 pub loop-way-preserved : goal.loop-way-preserved

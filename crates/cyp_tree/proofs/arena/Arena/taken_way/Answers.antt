@@ -1,9 +1,7 @@
-use Rattle.std.proofs.Common.{◌≡◌, refl, sym, ◌∙◌, subst, ℕ, ◌+◌, ◌≤◌, length, Some, None, arith}
-use Rattle.std.specs.List.{slice_get}
+use Rattle.std.proofs.Common.{◌≡◌, refl, sym, ◌∙◌, subst, ◌+◌, ◌≤◌, length, Some, None, arith}
 use Rattle.std.proofs.lemmas.Option.{slice_get_read}
 use Rattle.cyp_tree.specs.declared.places.Run.{Run}
 use Rattle.cyp_tree.specs.Standing.{IsIn}
-use Rattle.cyp_tree.specs.Marked.{unsolved_at}
 use Rattle.cyp_tree.proofs.TakenWays.{HasSolved, has_solved}
 use Rattle.cyp_tree.proofs.Settling.{grown_le}
 use Rattle.cyp_tree.proofs.arena.Arena.taken_way.Goals as goal

@@ -1,8 +1,8 @@
-use Rattle.std.proofs.Common.{◌≡◌, refl, ◌∙◌, sym, ap, ◌+◌, ◌<◌, ◌≤◌, length, Some, arith}
+use Rattle.std.proofs.Common.{◌≡◌, refl, Some}
 use Rattle.std.specs.List.{slice_get}
 use Rattle.std.proofs.lemmas.Option.{slice_get_read}
 use Rattle.cyp_tree.specs.Choosing.{derived_at}
-use Rattle.cyp_tree.proofs.Rebuilding.{Turned, turned, last_solved, way_there}
+use Rattle.cyp_tree.proofs.Rebuilding.{Turned, turned, way_there}
 use Rattle.cyp_tree.proofs.arena.Arena.taken_ways.Goals as goal
 
 pub loop-at-preserved : goal.loop-at-preserved

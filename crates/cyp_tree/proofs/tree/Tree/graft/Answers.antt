@@ -1,4 +1,4 @@
-use Rattle.std.proofs.Common.{◌≤◌, ◌∙◌, sym, ap, subst, List, ℕ, arith}
+use Rattle.std.proofs.Common.{◌≤◌, ◌∙◌, sym, subst, List, ℕ, arith}
 use Rattle.cyp_space.specs.Alts.{AltOf}
 use Rattle.cyp_tree.specs.Trees.{Tree}
 use Rattle.cyp_tree.specs.Sizes.{size, depth}
@@ -16,6 +16,11 @@ pub graft-requires-clause-live : goal.graft-requires-clause-live
 graft-requires-clause-live g c =
     (live_here c.self.inside.arena.root c.self.inside.arena.places.items c.self.inside.arena.ways.items c.self.inside.arena.marks c.self.invariant.whole.arena c.args.leaf
     (subst (λ (x : Tree _ _). IsLive x c.args.leaf) (sym c.self.view_is) c.requires.live)).0
+
+pub level_below-below-requires-clause-leaf : goal.level_below-below-requires-clause-leaf
+level_below-below-requires-clause-leaf g c =
+    (live_here c.self.inside.arena.root c.self.inside.arena.places.items c.self.inside.arena.ways.items c.self.inside.arena.marks c.self.invariant.whole.arena c.args.leaf
+    (subst (λ (x : Tree _ _). IsLive x c.args.leaf) (sym c.self.view_is) c.requires.live)).1
 
 pub graft-requires-clause-leaf : goal.graft-requires-clause-leaf
 graft-requires-clause-leaf g c =
