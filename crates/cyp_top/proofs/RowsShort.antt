@@ -12,7 +12,7 @@ use Rattle.cyp_tree.specs.Growing.{expand_next}
 use Rattle.cyp_tree.specs.Live.{Waiting, next_leaf}
 use Rattle.cyp_tree.specs.Statuses.{status}
 use Rattle.cyp_tree.specs.Trees.{Leaf, Moving, Tree}
-use Rattle.cyp_tree.specs.declared.status.Status.TheVariants.{Failed, Open, Solved}
+use Rattle.cyp_tree.specs.declared.mark.Mark.TheVariants.{Failed, Solved, Undecided}
 
 -- the normal form, or the goal as it is where a limit is passed
 abbrev pub root_or : Node → Option Renaming → Node
@@ -42,7 +42,7 @@ rules_at (Some w) = map (λ (a : AltOf Rule Node). a.rule) (moves_of_kinds is_an
 abbrev pub trace_from : ℕ → Tree Rule Node → List (List Rule)
 trace_from zero t = []
 trace_from (suc k) t = elim (status t) [
-  | Open ↦ rules_at (next_leaf weight t) ∷ trace_from k (expand_next goals t)
+  | Undecided ↦ rules_at (next_leaf weight t) ∷ trace_from k (expand_next goals t)
   | Solved ↦ []
   | Failed ↦ []
 ]
