@@ -19,6 +19,8 @@ mod lanes;
 #[cfg(test)]
 mod lex;
 #[cfg(test)]
+mod memo;
+#[cfg(test)]
 mod moves;
 #[cfg(test)]
 mod names;
@@ -26,6 +28,8 @@ mod names;
 mod print;
 #[cfg(test)]
 mod pure;
+#[cfg(test)]
+mod queue;
 #[cfg(test)]
 mod search;
 #[cfg(test)]
@@ -38,5 +42,7 @@ mod step;
 mod term;
 #[cfg(test)]
 mod text;
+#[cfg(test)]
+mod tree;
 #[cfg(test)]
 mod unify;
