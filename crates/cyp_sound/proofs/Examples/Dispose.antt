@@ -108,7 +108,7 @@ dispose_correct name = sound_from lists dispose.goal disposed lists_formed lists
 
 -- ---- the bound at a list of three nodes
 
-abbrev program : List Procedure
+abbrev pub program : List Procedure
 program = program_of (codes "dispose") disposed
 
 -- a test, two reads, a deallocation and a call
@@ -121,7 +121,7 @@ three_measure : measure (Some 0) (3 ∷ []) ≡ 0 ∷ 3 ∷ replicate 15 0 ++ 1 
 three_measure = refl
 
 -- the program variable that the normal form keeps is the list's address
-three_arguments : map begin.number (kept_params lists dispose.goal) ≡ pos 10 ∷ []
+pub three_arguments : map begin.number (kept_params lists dispose.goal) ≡ pos 10 ∷ []
 unfolding joined eliminate eliminate_all feasible both all_cases ints_fit arrangements class_literals arrangement_fits satisfiable entailed regions_fit all_terms all_set_vars
 three_arguments = refl
 

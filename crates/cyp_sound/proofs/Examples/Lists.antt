@@ -136,32 +136,32 @@ module _ (u : Assignment) (h : Store) where
 
 -- ---- three nodes, at 10, 30 and 50
 
-abbrev numbers : ℕ → ℕ → ℕ → ℕ → ℤ
+abbrev pub numbers : ℕ → ℕ → ℕ → ℕ → ℤ
 numbers address content next zero = pos address
 numbers address content next (suc zero) = pos content
 numbers address content next _ = pos next
 
-abbrev members : List ℤ → ℕ → ℕ → List ℤ
+abbrev pub members : List ℤ → ℕ → ℕ → List ℤ
 members rest content zero = rest ++ pos content ∷ []
 members rest content _ = rest
 
 -- the values of the clause's variables at a node, where the rest of the list has these members
-abbrev node_values : ℕ → ℕ → ℕ → List ℤ → Assignment
+abbrev pub node_values : ℕ → ℕ → ℕ → List ℤ → Assignment
 node_values address content next rest = record { number = λ v. numbers address content next v.number; members = λ v. members rest content v.number }
 
-abbrev third : Assignment
+abbrev pub third : Assignment
 third = node_values 50 7 0 []
 
-abbrev second : Assignment
+abbrev pub second : Assignment
 second = node_values 30 6 50 (pos 7 ∷ [])
 
-abbrev first : Assignment
+abbrev pub first : Assignment
 first = node_values 10 5 30 (pos 7 ∷ pos 6 ∷ [])
 
-abbrev one_node : Store
+abbrev pub one_node : Store
 one_node = with_node third no_store
 
-abbrev two_nodes : Store
+abbrev pub two_nodes : Store
 two_nodes = with_node second one_node
 
 abbrev pub three_nodes : Store
