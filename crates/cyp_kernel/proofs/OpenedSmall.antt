@@ -1,5 +1,5 @@
 -- Cardinalities are small behind an opened instance or a call: old ones as before, new ones as the heights.
-use Rattle.std.proofs.Common.{◌≡◌, refl, sym, ap, ◌∙◌, ℕ, zero, suc, ◌-◌, ◌<◌, ◌≤◌, max, Bool, true, false, cond, List, [], ◌∷◌, get_or, ℤ, pos, arith, subst}
+use Rattle.std.proofs.Common.{◌≡◌, refl, sym, ℕ, zero, suc, ◌-◌, ◌≤◌, max, Bool, true, false, cond, List, [], ◌∷◌, get_or, pos, arith, subst}
 use Rattle.std.specs.Prelude.{nat_lt}
 use Rattle.cyp_heap.specs.Instances.{greatest, height_above}
 use Rattle.cyp_kernel.proofs.Opened.{opened, opened_number}
