@@ -4,9 +4,9 @@ use Rattle.cyp_lex.specs.declared.fault.Fault.{Fault}
 use Rattle.cyp_names.specs.LeastFaults.{lesser_of}
 use Rattle.cyp_names.proofs.LesserFaults.{least_parts}
 use Rattle.cyp_term.specs.declared.term.Sort.{Sort}
-use Rattle.cyp_text.specs.NameFaults.{arg_fault, arg_faults}
-use Rattle.cyp_text.specs.Reading.{least_fault}
-use Rattle.cyp_text.specs.Uses.{param_sort}
+use Rattle.cyp_names.specs.NameFaults.{arg_fault, arg_faults}
+use Rattle.cyp_names.specs.FaultOrder.{least_fault}
+use Rattle.cyp_names.specs.Uses.{param_sort}
 use Rattle.cyp_text.specs.declared.tree.ArgTree.{ArgTree}
 use Rattle.cyp_text.specs.declared.tree.ParamTree.{ParamTree}
 

@@ -6,8 +6,8 @@ use Rattle.cyp_lex.specs.declared.fault.FaultKind.TheVariants.{WrongSort}
 use Rattle.cyp_names.specs.LeastFaults.{set_guard_fault}
 use Rattle.cyp_names.specs.Places.{base_place, is_set_base}
 use Rattle.cyp_text.specs.LitTrees.{Comparing, Inside, LitTree, Negation, SameSets, SubSets, lit_base, lit_nots}
-use Rattle.cyp_text.specs.NameFaults.{is_set_literal, lit_place}
-use Rattle.cyp_text.specs.Reading.{least_fault}
+use Rattle.cyp_names.specs.NameFaults.{is_set_literal, lit_place}
+use Rattle.cyp_names.specs.FaultOrder.{least_fault}
 use Rattle.cyp_text.specs.declared.lit_tree.BaseTree.{BaseTree}
 
 pub place_negated : (l : LitTree) (p : ℕ) (ps : List ℕ) → lit_nots l ≡ p ∷ ps → p ≡ lit_place l

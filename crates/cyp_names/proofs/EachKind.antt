@@ -9,8 +9,8 @@ use Rattle.cyp_names.specs.declared.uses.Order.{Order}
 use Rattle.cyp_names.specs.declared.uses.Order.TheVariants.{AsKept, OfText}
 use Rattle.cyp_names.specs.declared.uses.PartKinds.TheVariants.{BraceParts, NameParts}
 use Rattle.cyp_term.specs.declared.term.Sort.{Sort}
-use Rattle.cyp_text.specs.Bodies.{in_kinds, is_block, is_cell, is_instance, is_name, item_lits, pure_lits}
-use Rattle.cyp_text.specs.Uses.{Use, arg_uses, args_uses, chunk_uses, part_uses}
+use Rattle.cyp_names.specs.Bodies.{in_kinds, is_block, is_cell, is_instance, is_name, item_lits, pure_lits}
+use Rattle.cyp_names.specs.Uses.{Use, arg_uses, args_uses, chunk_uses, part_uses}
 use Rattle.cyp_text.specs.declared.tree.ArgTree.{ArgTree}
 use Rattle.cyp_text.specs.declared.tree.ArgTree.TheVariants.{BracesArg, TermArg, UnionArg}
 use Rattle.cyp_text.specs.declared.tree.BodyTree.{BodyTree}

@@ -5,7 +5,7 @@ use Rattle.std.proofs.lemmas.Bool.Decides.{nat_tests}
 use Rattle.cyp_lex.specs.FaultNumber.{fault_number}
 use Rattle.cyp_lex.specs.declared.fault.Fault.{Fault}
 use Rattle.cyp_names.specs.LeastFaults.{lesser_of}
-use Rattle.cyp_text.specs.Reading.{is_before, least_fault, lesser}
+use Rattle.cyp_names.specs.FaultOrder.{is_before, least_fault, lesser}
 
 -- an order by the first number, then by the second
 abbrev pub before : ℕ → ℕ → ℕ → ℕ → Bool

@@ -1,7 +1,10 @@
 pub mod ArgFaults
 pub mod Bases
 pub mod EachKind
+pub mod GoalScopes
 pub mod LesserFaults
 pub mod Negations
+pub mod NoFaults
 pub mod ScopeTurns
+pub mod ScopeNames
 pub mod SeenUses

@@ -5,9 +5,9 @@ use Rattle.std.proofs.lemmas.Bool.Decides.{nat_tests}
 use Rattle.cyp_names.specs.Orders.{base_in, lit_in}
 use Rattle.cyp_names.specs.declared.uses.Order.{Order}
 use Rattle.cyp_names.specs.declared.uses.Order.TheVariants.{AsKept, OfText}
-use Rattle.cyp_text.specs.Bodies.{kept_lit}
+use Rattle.cyp_names.specs.Bodies.{kept_lit}
 use Rattle.cyp_text.specs.LitTrees.{Comparing, Inside, LitTree, Negation, SameSets, SubSets, lit_base, lit_nots}
-use Rattle.cyp_text.specs.Uses.{lit_uses}
+use Rattle.cyp_names.specs.Uses.{lit_uses}
 use Rattle.cyp_text.specs.declared.lit_tree.BaseTree.{BaseTree}
 
 -- turned round once for each

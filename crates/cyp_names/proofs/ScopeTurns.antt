@@ -4,8 +4,8 @@ use Rattle.std.specs.Str.{bytes_eq}
 use Rattle.cyp_term.specs.Terms.{sort_eq}
 use Rattle.cyp_term.specs.declared.term.Sort.{Sort}
 use Rattle.cyp_term.proofs.Turns.{drop_here}
-use Rattle.cyp_text.specs.ReadTerms.{Scope, rank_of, sort_in}
-use Rattle.cyp_text.specs.Uses.{Use}
+use Rattle.cyp_names.specs.ReadTerms.{Scope, rank_of, sort_in}
+use Rattle.cyp_names.specs.Uses.{Use}
 
 module _ (us : Scope) (i : ℕ) (u : Use) (name : List ℕ) (within : i < length us) (at : u ≡ get_or us i u) where
   here : {A : Type 0} (f : Scope → A) → f (drop i us) ≡ f (u ∷ drop (i + 1) us)

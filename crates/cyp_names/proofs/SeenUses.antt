@@ -10,9 +10,9 @@ use Rattle.cyp_lex.specs.declared.ident.Ident.{Ident}
 use Rattle.cyp_lex.specs.declared.fault.Fault.{Fault}
 use Rattle.cyp_names.specs.LeastFaults.{lesser_of, noted, repeat_fault}
 use Rattle.cyp_term.specs.declared.term.Sort.{Sort}
-use Rattle.cyp_text.specs.NameFaults.{known_sort, repeats, sort_fault, sort_faults}
-use Rattle.cyp_text.specs.Reading.{least_fault}
-use Rattle.cyp_text.specs.Uses.{Use}
+use Rattle.cyp_names.specs.NameFaults.{known_sort, repeats, sort_fault, sort_faults}
+use Rattle.cyp_names.specs.FaultOrder.{least_fault}
+use Rattle.cyp_names.specs.Uses.{Use}
 use Rattle.cyp_names.proofs.LesserFaults.{least_parts}
 
 -- the same sort is known of each name

@@ -6,11 +6,11 @@ use Rattle.cyp_lex.specs.declared.ident.Ident.{Ident}
 use Rattle.cyp_lex.specs.declared.fault.Fault.{Fault}
 use Rattle.cyp_lex.specs.declared.fault.FaultKind.TheVariants.{DuplicateName, WrongSort}
 use Rattle.cyp_term.specs.declared.term.Sort.{Sort}
-use Rattle.cyp_text.specs.Bodies.{body_uses}
+use Rattle.cyp_names.specs.Bodies.{body_uses}
 use Rattle.cyp_text.specs.LitTrees.{LitTree}
-use Rattle.cyp_text.specs.NameFaults.{fault_at, is_set_literal, lit_place, sort_faults}
-use Rattle.cyp_text.specs.Reading.{lesser}
-use Rattle.cyp_text.specs.Uses.{Use, lit_uses, param_uses}
+use Rattle.cyp_names.specs.NameFaults.{fault_at, is_set_literal, lit_place, sort_faults}
+use Rattle.cyp_names.specs.FaultOrder.{lesser}
+use Rattle.cyp_names.specs.Uses.{Use, lit_uses, param_uses}
 use Rattle.cyp_text.specs.declared.tree.ClauseTree.{ClauseTree}
 use Rattle.cyp_text.specs.declared.tree.ParamTree.{ParamTree}
 use Rattle.cyp_text.specs.declared.tree.PredTree.{PredTree}

@@ -1,3 +1,10 @@
+pub mod Bodies
+pub mod FaultOrder
 pub mod LeastFaults
+pub mod NameFaults
 pub mod Orders
 pub mod Places
+pub mod PredFaults
+pub mod ReadTerms
+pub mod Specifications
+pub mod Uses

@@ -1,9 +1,9 @@
 -- The names of a text in its two orders: as they are written, and as they are kept.
 use Rattle.std.specs.Prelude.{[], Bool, List, None, Option, Some, cond, false, flat_map, not, true, ◌++◌, ◌∷◌}
 use Rattle.cyp_term.specs.declared.term.Sort.{Sort}
-use Rattle.cyp_text.specs.Bodies.{body_uses, in_kinds, is_block, is_cell, is_instance, is_name, is_turned, item_lits, kept_body, kept_lit, kept_parts}
+use Rattle.cyp_names.specs.Bodies.{body_uses, in_kinds, is_block, is_cell, is_instance, is_name, is_turned, item_lits, kept_body, kept_lit, kept_parts}
 use Rattle.cyp_text.specs.LitTrees.{LitTree}
-use Rattle.cyp_text.specs.Uses.{Use, chunk_uses, int_uses, lit_uses, part_uses, parts_uses, set_parts, use_of}
+use Rattle.cyp_names.specs.Uses.{Use, chunk_uses, int_uses, lit_uses, part_uses, parts_uses, set_parts, use_of}
 use Rattle.cyp_text.specs.declared.lit_tree.BaseTree.{BaseTree}
 use Rattle.cyp_text.specs.declared.lit_tree.BaseTree.TheVariants.{Comparing, Inside, SameSets, SubSets}
 use Rattle.cyp_text.specs.declared.tree.BodyTree.{BodyTree}

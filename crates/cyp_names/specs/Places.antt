@@ -1,6 +1,6 @@
 -- What a literal is without its negations.
 use Rattle.std.specs.Prelude.{Bool, false, true, ℕ}
-use Rattle.cyp_text.specs.NameFaults.{int_place, set_place}
+use Rattle.cyp_names.specs.NameFaults.{int_place, set_place}
 use Rattle.cyp_text.specs.declared.lit_tree.BaseTree.{BaseTree}
 use Rattle.cyp_text.specs.declared.lit_tree.BaseTree.TheVariants.{Comparing, Inside, SameSets, SubSets}
 

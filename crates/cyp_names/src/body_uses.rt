@@ -1,7 +1,7 @@
 ghost use Rattle.std.specs.Prelude.{◌≡◌, ◌++◌, OnOk, flat_map, map, slice_get};
 ghost use Rattle.cyp_names.specs.Orders.{body_in, chunk_of_kind, chunks_in, item_uses, lit_in, parts_in, takes_chunk, term_arg_uses};
-ghost use Rattle.cyp_text.specs.Bodies.{is_block, is_cell, is_instance, pure_lits};
-ghost use Rattle.cyp_text.specs.Uses.{arg_uses, args_uses, chunk_uses, param_sort, param_uses};
+ghost use Rattle.cyp_names.specs.Bodies.{is_block, is_cell, is_instance, pure_lits};
+ghost use Rattle.cyp_names.specs.Uses.{arg_uses, args_uses, chunk_uses, param_sort, param_uses};
 
 use crate::predicates::{param_sort, params_of};
 use crate::uses::{NamedUse, Order, Union, add_int, add_literal, add_union};

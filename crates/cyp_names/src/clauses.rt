@@ -1,8 +1,8 @@
 ghost use Rattle.std.specs.Prelude.{◌≡◌, IfOk, flat_map};
 ghost use Rattle.cyp_names.specs.LeastFaults.{clause_sorts, set_guard_fault};
 ghost use Rattle.cyp_names.specs.Places.{is_set_base};
-ghost use Rattle.cyp_text.specs.NameFaults.{clause_faults, guard_faults, pred_faults, unbound_fault};
-ghost use Rattle.cyp_text.specs.Reading.{least_fault};
+ghost use Rattle.cyp_names.specs.NameFaults.{clause_faults, guard_faults, pred_faults, unbound_fault};
+ghost use Rattle.cyp_names.specs.FaultOrder.{least_fault};
 
 use crate::body_uses::{add_body, add_params};
 use crate::instances::chunks_fault;

@@ -1,9 +1,9 @@
 ghost use Rattle.std.specs.Prelude.{[], ◌≡◌, cond, flat_map, length, map};
 ghost use Rattle.cyp_lex.specs.declared.fault.FaultKind.TheVariants.{WrongSort};
 ghost use Rattle.cyp_term.specs.Terms.{sort_eq};
-ghost use Rattle.cyp_text.specs.NameFaults.{arg_fault, arg_faults, chunk_faults, fault_at, instance_fault};
-ghost use Rattle.cyp_text.specs.Reading.{least_fault};
-ghost use Rattle.cyp_text.specs.Uses.{param_sort, pred_named};
+ghost use Rattle.cyp_names.specs.NameFaults.{arg_fault, arg_faults, chunk_faults, fault_at, instance_fault};
+ghost use Rattle.cyp_names.specs.FaultOrder.{least_fault};
+ghost use Rattle.cyp_names.specs.Uses.{param_sort, pred_named};
 
 use crate::least::{fault, lesser};
 use crate::places::int_place;

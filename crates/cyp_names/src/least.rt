@@ -1,7 +1,7 @@
 ghost use Rattle.std.specs.Prelude.{◌≡◌};
 ghost use Rattle.cyp_names.specs.LeastFaults.{lesser_of};
-ghost use Rattle.cyp_text.specs.NameFaults.{fault_at};
-ghost use Rattle.cyp_text.specs.Reading.{is_before, least_fault};
+ghost use Rattle.cyp_names.specs.NameFaults.{fault_at};
+ghost use Rattle.cyp_names.specs.FaultOrder.{is_before, least_fault};
 
 use cyp_lex::{Fault, FaultKind};
 

@@ -1,4 +1,5 @@
-//! The names of a specification's text: where they stand for variables, and their faults.
+//! What a specification's tree says, as definitions; its names in code: the variables that they
+//! stand for, and their faults.
 #![tactic(auto)]
 
 mod body_uses;

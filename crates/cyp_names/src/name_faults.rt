@@ -1,7 +1,7 @@
 ghost use Rattle.std.specs.Prelude.{◌≡◌, IfOk, flat_map};
 ghost use Rattle.cyp_names.specs.LeastFaults.{proc_sorts};
-ghost use Rattle.cyp_text.specs.NameFaults.{name_faults, proc_faults, set_param_fault};
-ghost use Rattle.cyp_text.specs.Reading.{least_fault};
+ghost use Rattle.cyp_names.specs.NameFaults.{name_faults, proc_faults, set_param_fault};
+ghost use Rattle.cyp_names.specs.FaultOrder.{least_fault};
 
 use crate::body_uses::{add_body, add_params};
 use crate::clauses::preds_fault;

@@ -1,6 +1,6 @@
 ghost use Rattle.std.specs.Prelude.{◌≡◌};
 ghost use Rattle.cyp_names.specs.Places.{base_place};
-ghost use Rattle.cyp_text.specs.NameFaults.{int_place, lit_place, part_place, set_place};
+ghost use Rattle.cyp_names.specs.NameFaults.{int_place, lit_place, part_place, set_place};
 
 use cyp_text::{BaseTree, IntTree, LitTree, PartTree, SetTree};
 

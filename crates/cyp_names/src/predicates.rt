@@ -1,6 +1,6 @@
 ghost use Rattle.std.specs.Prelude.{◌≡◌, None, Some, MatchOption, length, map};
 ghost use Rattle.std.specs.Str.{bytes_eq};
-ghost use Rattle.cyp_text.specs.Uses.{param_sort, pred_named, pred_place, sort_of, sorts_of};
+ghost use Rattle.cyp_names.specs.Uses.{param_sort, pred_named, pred_place, sort_of, sorts_of};
 
 use cyp_lex::Ident;
 use cyp_term::Sort;

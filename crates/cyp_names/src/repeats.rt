@@ -3,8 +3,8 @@ ghost use Rattle.std.specs.List.{list_any};
 ghost use Rattle.std.specs.Str.{bytes_eq};
 ghost use Rattle.cyp_lex.specs.declared.ident.Ident.{Ident as TheIdent};
 ghost use Rattle.cyp_names.specs.LeastFaults.{repeat_fault};
-ghost use Rattle.cyp_text.specs.NameFaults.{repeats};
-ghost use Rattle.cyp_text.specs.Reading.{least_fault};
+ghost use Rattle.cyp_names.specs.NameFaults.{repeats};
+ghost use Rattle.cyp_names.specs.FaultOrder.{least_fault};
 
 use crate::least::{fault, lesser};
 use crate::predicates::is_same_name;

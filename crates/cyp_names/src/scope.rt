@@ -2,9 +2,9 @@ ghost use Rattle.std.specs.Prelude.{IfOk, OnErr, OnOk, [], length, ◌<◌, ◌�
 ghost use Rattle.std.specs.List.{list_any};
 ghost use Rattle.std.specs.Str.{bytes_eq};
 ghost use Rattle.cyp_term.specs.Terms.{sort_eq, with_all_new, with_new, without_repeats};
-ghost use Rattle.cyp_text.specs.ReadTerms.{rank_of, sort_in, var_named};
-ghost use Rattle.cyp_text.specs.Specifications.{count_sort};
-ghost use Rattle.cyp_text.specs.Uses.{same_name};
+ghost use Rattle.cyp_names.specs.ReadTerms.{rank_of, sort_in, var_named};
+ghost use Rattle.cyp_names.specs.Specifications.{count_sort};
+ghost use Rattle.cyp_names.specs.Uses.{same_name};
 
 use crate::uses::NamedUse;
 use cyp_lex::Name;
@@ -19,7 +19,7 @@ pub struct Scope<'a> {
 }
 
 impl<'a> Model for Scope<'a> {
-    ghost use Rattle.cyp_text.specs.ReadTerms.{Scope};
+    ghost use Rattle.cyp_names.specs.ReadTerms.{Scope};
 
     ghost Value = { Scope };
 
@@ -67,8 +67,9 @@ impl<'a> Scope<'a> {
     }
 
     /// Adds a name that isn't there yet.
-    pub fn add(&mut self, name: NamedUse<'a>) -> Result<(), NoMemory>
-        ensures { OnOk result (self.new ≡ with_new same_name self.old name.entry) }
+    fn add(&mut self, name: NamedUse<'a>) -> Result<(), NoMemory>
+        ensures added { OnOk result (self.new ≡ with_new same_name self.old name.entry) }
+        ensures kept { OnErr result (self.new ≡ self.old) }
     {
         if !self.has(&name) {
             self.uses.push(name)?;
@@ -76,14 +77,15 @@ impl<'a> Scope<'a> {
         Ok(())
     }
 
-    /// Adds each name that isn't there yet.
-    pub fn add_all(&mut self, names: Vec<NamedUse<'a>>) -> Result<(), NoMemory>
-        ensures { OnOk result (self.new ≡ with_all_new same_name self.old names.entry.items) }
+    /// The scope with each name that isn't there yet.
+    pub fn with_all(self, names: Vec<NamedUse<'a>>) -> Result<Scope<'a>, NoMemory>
+        ensures { IfOk result (λ s. s ≡ with_all_new same_name self.entry names.entry.items) }
     {
+        let mut scope = self;
         for name in names {
-            self.add(name)?;
+            scope.add(name)?;
         }
-        Ok(())
+        Ok(scope)
     }
 
     /// How many names there are of the sort.

@@ -1,5 +1,5 @@
 ghost use Rattle.std.specs.Prelude.{IfOk, ◌≡◌};
-ghost use Rattle.cyp_text.specs.Specifications.{clause_scope, goal_scope, universal_scope};
+ghost use Rattle.cyp_names.specs.Specifications.{clause_scope, goal_scope, universal_scope};
 
 use crate::body_uses::{add_body, add_params};
 use crate::scope::Scope;
@@ -22,9 +22,7 @@ pub fn clause_scope<'a>(
     add_params(&mut uses, params)?;
     add_literal(&mut uses, Order::AsKept, &clause.guard)?;
     add_body(&mut uses, Order::AsKept, preds, &clause.body)?;
-    let mut scope = Scope::new(alloc);
-    scope.add_all(uses)?;
-    Ok(scope)
+    Scope::new(alloc).with_all(uses)
 }
 
 /// The names of the procedure's parameters and of the precondition as it is kept.
@@ -34,18 +32,15 @@ pub fn universal_scope<'a>(alloc: Global, tree: &'a TextTree) -> Result<Scope<'a
     let mut uses = Vec::new(alloc);
     add_params(&mut uses, tree.params.as_slice())?;
     add_body(&mut uses, Order::AsKept, tree.preds.as_slice(), &tree.pre)?;
-    let mut scope = Scope::new(alloc);
-    scope.add_all(uses)?;
-    Ok(scope)
+    Scope::new(alloc).with_all(uses)
 }
 
 /// The names of the universal scope, and then those that the postcondition alone has.
 pub fn goal_scope<'a>(alloc: Global, tree: &'a TextTree) -> Result<Scope<'a>, NoMemory>
     ensures { IfOk result (λ s. s ≡ goal_scope tree.now) }
 {
-    let mut scope = universal_scope(alloc, tree)?;
+    let scope = universal_scope(alloc, tree)?;
     let mut uses = Vec::new(alloc);
     add_body(&mut uses, Order::AsKept, tree.preds.as_slice(), &tree.post)?;
-    scope.add_all(uses)?;
-    Ok(scope)
+    scope.with_all(uses)
 }

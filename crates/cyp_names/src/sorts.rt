@@ -1,8 +1,8 @@
 ghost use Rattle.std.specs.Prelude.{◌≡◌, IfOk, OnOk};
 ghost use Rattle.cyp_names.specs.LeastFaults.{noted};
 ghost use Rattle.cyp_term.specs.Terms.{sort_eq};
-ghost use Rattle.cyp_text.specs.NameFaults.{known_sort, sort_fault, sort_faults};
-ghost use Rattle.cyp_text.specs.Reading.{least_fault};
+ghost use Rattle.cyp_names.specs.NameFaults.{known_sort, sort_fault, sort_faults};
+ghost use Rattle.cyp_names.specs.FaultOrder.{least_fault};
 
 use crate::least::{fault, lesser};
 use crate::predicates::is_same_name;

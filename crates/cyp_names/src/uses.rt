@@ -1,8 +1,8 @@
 ghost use Rattle.std.specs.Prelude.{◌≡◌, ◌++◌, OnOk, cond, flat_map};
 ghost use Rattle.cyp_text.specs.declared.tree.PartTree.TheVariants.{Braces, PartName};
 ghost use Rattle.cyp_names.specs.Orders.{base_in, kind_uses, lit_in, parts_in, takes_part, turns, union_parts};
-ghost use Rattle.cyp_text.specs.Bodies.{is_name, is_turned};
-ghost use Rattle.cyp_text.specs.Uses.{int_uses, part_uses, set_parts, use_of};
+ghost use Rattle.cyp_names.specs.Bodies.{is_name, is_turned};
+ghost use Rattle.cyp_names.specs.Uses.{int_uses, part_uses, set_parts, use_of};
 
 use cyp_lex::Ident;
 use cyp_term::{List, NoMemory, Sort};
@@ -17,7 +17,7 @@ pub struct NamedUse<'a> {
 }
 
 impl<'a> Model for NamedUse<'a> {
-    ghost use Rattle.cyp_text.specs.Uses.{Use};
+    ghost use Rattle.cyp_names.specs.Uses.{Use};
 
     ghost Value = { Use };
 

@@ -8,10 +8,10 @@ use Rattle.cyp_heap.specs.declared.chunk.Chunk.{Chunk}
 use Rattle.cyp_heap.specs.declared.chunk.Chunk.TheVariants.{Block, Cell, Inst}
 use Rattle.cyp_reading.specs.Cards.{next_card, with_card}
 use Rattle.cyp_reading.specs.Mended.{mended, mended_body}
-use Rattle.cyp_reading.proofs.TextsReadable.{kinds_length}
-use Rattle.cyp_text.specs.Bodies.{in_kinds}
-use Rattle.cyp_text.specs.ReadTerms.{Scope, read_chunk, read_chunks}
-use Rattle.cyp_text.specs.Specifications.{with_cards}
+use Rattle.cyp_reading.proofs.Lengths.{kinds_length}
+use Rattle.cyp_names.specs.Bodies.{in_kinds}
+use Rattle.cyp_names.specs.ReadTerms.{Scope, read_chunk, read_chunks}
+use Rattle.cyp_names.specs.Specifications.{with_cards}
 use Rattle.cyp_text.specs.declared.tree.BodyTree.{BodyTree}
 use Rattle.cyp_text.specs.declared.tree.PredTree.{PredTree}
 

@@ -6,15 +6,15 @@ use Rattle.cyp_reading.proofs.MendedSame.{body_same, goal_names, universal_names
 use Rattle.cyp_term.specs.Terms.{sort_eq}
 use Rattle.cyp_term.specs.declared.term.Sort.{Sort}
 use Rattle.cyp_term.specs.declared.term.Sort.TheVariants.{Int, Set}
-use Rattle.cyp_text.specs.LimitFaults.{size_faults}
-use Rattle.cyp_text.specs.ReadTerms.{Scope, read_chunks, read_lit, read_lits}
-use Rattle.cyp_text.specs.Specifications.{clause_scope, count_sort, goal_scope, read_clause, read_goal, universal_scope}
-use Rattle.cyp_text.specs.Uses.{Use}
+use Rattle.cyp_names.specs.PredFaults.{size_faults}
+use Rattle.cyp_names.specs.ReadTerms.{Scope, read_chunks, read_lit, read_lits}
+use Rattle.cyp_names.specs.Specifications.{clause_scope, count_sort, goal_scope, read_clause, read_goal, universal_scope}
+use Rattle.cyp_names.specs.Uses.{Use}
 use Rattle.cyp_text.specs.declared.tree.ClauseTree.{ClauseTree}
 use Rattle.cyp_text.specs.declared.tree.ParamTree.{ParamTree}
 use Rattle.cyp_text.specs.declared.tree.PredTree.{PredTree}
 use Rattle.cyp_text.specs.declared.tree.TextTree.{TextTree}
-use Rattle.cyp_text.proofs.FormedScope.{goal_grows}
+use Rattle.cyp_names.proofs.GoalScopes.{goal_grows}
 
 -- a clause without wrong sizes
 pub clause_said : (qs : List PredTree) (ps : List ParamTree) (c : ClauseTree) → size_faults c.body ≡ [] → clause_in qs (clause_scope qs ps c) c ≡ read_clause qs ps c

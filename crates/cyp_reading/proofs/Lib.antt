@@ -4,10 +4,8 @@ pub mod ArgsRead
 pub mod CardsGiven
 pub mod HeapsRead
 pub mod InScopes
+pub mod Lengths
 pub mod MendedSame
 pub mod NotsRead
-pub mod SmallMarks
-pub mod SortedRead
 pub mod TermsRead
-pub mod TextsReadable
 pub mod UnionsRead

@@ -5,17 +5,17 @@ use Rattle.std.proofs.lemmas.Bool.{and_parts, leb-true}
 use Rattle.std.proofs.lemmas.Grind.{flat_map-append}
 use Rattle.cyp_reading.specs.declared.chunks.Kind.TheVariants.{Blocks, Cells, Instances}
 use Rattle.cyp_reading.specs.Mended.{mended, mended_body, mended_text}
-use Rattle.cyp_text.specs.Bodies.{body_lits, in_kinds, is_block, is_cell, is_instance, kept_body, kept_lit, kept_parts}
-use Rattle.cyp_text.specs.LimitFaults.{size_fault, size_faults}
-use Rattle.cyp_text.specs.Specifications.{goal_scope, universal_scope}
-use Rattle.cyp_text.specs.Uses.{Use, chunk_uses, param_uses, same_name}
+use Rattle.cyp_names.specs.Bodies.{body_lits, in_kinds, is_block, is_cell, is_instance, kept_body, kept_lit, kept_parts}
+use Rattle.cyp_names.specs.PredFaults.{size_fault, size_faults}
+use Rattle.cyp_names.specs.Specifications.{goal_scope, universal_scope}
+use Rattle.cyp_names.specs.Uses.{Use, chunk_uses, param_uses, same_name}
 use Rattle.cyp_term.specs.Terms.{with_all_new, without_repeats}
 use Rattle.cyp_text.specs.declared.tree.BodyTree.{BodyTree}
 use Rattle.cyp_text.specs.declared.tree.ChunkTree.{ChunkTree}
 use Rattle.cyp_text.specs.declared.tree.ChunkTree.TheVariants.{BlockOf, InstanceOf, NamedCell, TermCell}
 use Rattle.cyp_text.specs.declared.tree.PredTree.{PredTree}
 use Rattle.cyp_text.specs.declared.tree.TextTree.{TextTree}
-use Rattle.cyp_text.proofs.FormedInstances.{none_both, test_true}
+use Rattle.cyp_names.proofs.NoFaults.{none_both, test_true}
 use Rattle.cyp_reading.proofs.HeapsRead.{kind_mended}
 
 size_same : (n : ℕ) → 1 ≤ n → n ≤ 8 → max 1 (min n 8) ≡ n

@@ -4,7 +4,7 @@ use Rattle.cyp_term.specs.Terms.{negated}
 use Rattle.cyp_term.specs.declared.lit.Lit.{Lit}
 use Rattle.cyp_term.specs.declared.lit.Lit.TheVariants.{Eq, Le, Lt, Member, Ne, NotMember, NotSame, NotSub, Same, Sub}
 use Rattle.cyp_text.specs.LitTrees.{Comparing, Inside, LitTree, Negation, SameSets, SubSets, lit_base, lit_nots, plain_lit}
-use Rattle.cyp_text.specs.ReadTerms.{Scope, read_lit}
+use Rattle.cyp_names.specs.ReadTerms.{Scope, read_lit}
 
 twice : (l : Lit) → negated (negated l) ≡ l
 twice (Eq a b) = refl

@@ -5,7 +5,7 @@ use Rattle.std.proofs.lemmas.Int.{ints}
 use Rattle.cyp_term.specs.TermValue.{IsBase, IsNumber}
 use Rattle.cyp_term.specs.declared.term.Sort.{Sort}
 use Rattle.cyp_term.specs.declared.term.Sort.TheVariants.{Int}
-use Rattle.cyp_text.specs.ReadTerms.{Scope, sort_in, var_named}
+use Rattle.cyp_names.specs.ReadTerms.{Scope, sort_in, var_named}
 
 -- a name of an integer is the base of a term
 pub int_base : (sc : Scope) (a : List ℕ) → sort_in sc a ≡ Int → IsBase (Some (var_named sc a))

@@ -10,7 +10,7 @@ use Rattle.cyp_term.specs.declared.term.Var.{Var}
 use Rattle.cyp_term.proofs.Images.{AllSets_with_all_new}
 use Rattle.cyp_term.proofs.Repeats.{with_all_new_append}
 use Rattle.cyp_term.proofs.Turns.{added_turn}
-use Rattle.cyp_text.specs.ReadTerms.{Scope, part_elems, part_vars, read_int}
+use Rattle.cyp_names.specs.ReadTerms.{Scope, part_elems, part_vars, read_int}
 use Rattle.cyp_text.specs.declared.tree.IntTree.{IntTree}
 use Rattle.cyp_text.specs.declared.tree.PartTree.{PartTree}
 use Rattle.cyp_text.specs.declared.tree.PartTree.TheVariants.{Braces, PartName}

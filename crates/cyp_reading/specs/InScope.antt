@@ -4,10 +4,10 @@ use Rattle.cyp_heap.specs.declared.goal.Goal.{Goal}
 use Rattle.cyp_heap.specs.declared.pred.Clause.{Clause}
 use Rattle.cyp_reading.specs.Mended.{mended_body}
 use Rattle.cyp_term.specs.declared.term.Sort.TheVariants.{Int, Set}
-use Rattle.cyp_text.specs.Bodies.{body_lits}
-use Rattle.cyp_text.specs.ReadTerms.{Scope, read_chunks, read_lit, use_var}
-use Rattle.cyp_text.specs.Specifications.{count_sort, with_cards}
-use Rattle.cyp_text.specs.Uses.{param_uses}
+use Rattle.cyp_names.specs.Bodies.{body_lits}
+use Rattle.cyp_names.specs.ReadTerms.{Scope, read_chunks, read_lit, use_var}
+use Rattle.cyp_names.specs.Specifications.{count_sort, with_cards}
+use Rattle.cyp_names.specs.Uses.{param_uses}
 use Rattle.cyp_text.specs.declared.tree.ClauseTree.{ClauseTree}
 use Rattle.cyp_text.specs.declared.tree.PredTree.{PredTree}
 use Rattle.cyp_text.specs.declared.tree.TextTree.{TextTree}

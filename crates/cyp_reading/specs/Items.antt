@@ -1,6 +1,6 @@
 -- The literals of items behind conjunctions.
 use Rattle.std.specs.Prelude.{List, flat_map}
-use Rattle.cyp_text.specs.Bodies.{item_lits}
+use Rattle.cyp_names.specs.Bodies.{item_lits}
 use Rattle.cyp_text.specs.LitTrees.{LitTree}
 use Rattle.cyp_text.specs.declared.tree.Conjunction.{Conjunction}
 use Rattle.cyp_text.specs.declared.tree.ItemTree.{ItemTree}

@@ -5,4 +5,3 @@ pub mod Items
 pub mod Mended
 pub mod Readable
 pub mod ReadableTexts
-pub mod Small

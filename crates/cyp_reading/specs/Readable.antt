@@ -5,8 +5,8 @@ use Rattle.cyp_lex.specs.declared.ident.Ident.{Ident}
 use Rattle.cyp_term.specs.declared.term.Sort.{Sort}
 use Rattle.cyp_term.specs.declared.term.Sort.TheVariants.{Int, Set}
 use Rattle.cyp_text.specs.LitTrees.{LitTree, lit_base}
-use Rattle.cyp_text.specs.ReadTerms.{Scope, sort_in}
-use Rattle.cyp_text.specs.Uses.{arg_sorts, pred_place}
+use Rattle.cyp_names.specs.ReadTerms.{Scope, sort_in}
+use Rattle.cyp_names.specs.Uses.{arg_sorts, pred_place}
 use Rattle.cyp_text.specs.declared.lit_tree.BaseTree.{BaseTree}
 use Rattle.cyp_text.specs.declared.lit_tree.BaseTree.TheVariants.{Comparing, Inside, SameSets, SubSets}
 use Rattle.cyp_text.specs.declared.tree.ArgTree.{ArgTree}

@@ -2,9 +2,9 @@
 use Rattle.std.specs.Prelude.{[], List, length, ◌≤◌, ◌≡◌}
 use Rattle.std.specs.List.{All}
 use Rattle.cyp_reading.specs.Readable.{BodyReadable, LitReadable}
-use Rattle.cyp_text.specs.LimitFaults.{size_faults}
-use Rattle.cyp_text.specs.ReadTerms.{Scope}
-use Rattle.cyp_text.specs.Specifications.{clause_scope, goal_scope}
+use Rattle.cyp_names.specs.PredFaults.{size_faults}
+use Rattle.cyp_names.specs.ReadTerms.{Scope}
+use Rattle.cyp_names.specs.Specifications.{clause_scope, goal_scope}
 use Rattle.cyp_text.specs.declared.tree.ClauseTree.{ClauseTree}
 use Rattle.cyp_text.specs.declared.tree.ParamTree.{ParamTree}
 use Rattle.cyp_text.specs.declared.tree.PredTree.{PredTree}

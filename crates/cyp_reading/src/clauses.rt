@@ -4,9 +4,9 @@ ghost use Rattle.cyp_reading.specs.InScope.{clause_in};
 ghost use Rattle.cyp_reading.specs.Mended.{mended_body};
 ghost use Rattle.cyp_reading.specs.Readable.{ChunkReadable};
 ghost use Rattle.cyp_reading.specs.ReadableTexts.{ClauseIn, ClauseReadable, PredReadable};
-ghost use Rattle.cyp_text.specs.ReadTerms.{read_chunks};
-ghost use Rattle.cyp_text.specs.Specifications.{read_clause, read_pred};
-ghost use Rattle.cyp_text.specs.Uses.{param_sort};
+ghost use Rattle.cyp_names.specs.ReadTerms.{read_chunks};
+ghost use Rattle.cyp_names.specs.Specifications.{read_clause, read_pred};
+ghost use Rattle.cyp_names.specs.Uses.{param_sort};
 
 use crate::chunks::read_chunks;
 use crate::literals::{read_lit, read_lits};

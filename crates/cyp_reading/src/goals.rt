@@ -5,9 +5,9 @@ ghost use Rattle.cyp_reading.specs.InScope.{goal_in};
 ghost use Rattle.cyp_reading.specs.Mended.{mended_body, mended_text};
 ghost use Rattle.cyp_reading.specs.Readable.{ChunkReadable};
 ghost use Rattle.cyp_reading.specs.ReadableTexts.{GoalIn, GoalReadable};
-ghost use Rattle.cyp_text.specs.ReadTerms.{read_chunks, use_var};
-ghost use Rattle.cyp_text.specs.Specifications.{read_goal, with_cards};
-ghost use Rattle.cyp_text.specs.Uses.{param_uses};
+ghost use Rattle.cyp_names.specs.ReadTerms.{read_chunks, use_var};
+ghost use Rattle.cyp_names.specs.Specifications.{read_goal, with_cards};
+ghost use Rattle.cyp_names.specs.Uses.{param_uses};
 
 use crate::chunks::read_chunks;
 use crate::clauses::read_heap;

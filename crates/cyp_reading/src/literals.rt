@@ -2,9 +2,9 @@ ghost use Rattle.std.specs.Prelude.{IfOk, OnOk, length, map, ◌++◌, ◌≡◌
 ghost use Rattle.std.specs.List.{All};
 ghost use Rattle.cyp_reading.specs.Items.{items_lits};
 ghost use Rattle.cyp_reading.specs.Readable.{BaseReadable, ItemReadable, LitReadable, PureReadable};
-ghost use Rattle.cyp_text.specs.Bodies.{item_lits, pure_lits};
+ghost use Rattle.cyp_names.specs.Bodies.{item_lits, pure_lits};
 ghost use Rattle.cyp_text.specs.LitTrees.{plain_lit};
-ghost use Rattle.cyp_text.specs.ReadTerms.{compared, read_lit};
+ghost use Rattle.cyp_names.specs.ReadTerms.{compared, read_lit};
 
 use crate::terms::read_int;
 use crate::unions::read_set;

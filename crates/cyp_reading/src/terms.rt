@@ -2,7 +2,7 @@ ghost use Rattle.std.specs.Prelude.{length, negsuc, pos, ◌-◌, ◌^◌, ◌�
 ghost use Rattle.cyp_reading.specs.Readable.{HasSort, IntReadable};
 ghost use Rattle.cyp_term.specs.Terms.{plus, var_term};
 ghost use Rattle.cyp_term.specs.declared.term.Sort.TheVariants.{Int};
-ghost use Rattle.cyp_text.specs.ReadTerms.{read_int, var_named};
+ghost use Rattle.cyp_names.specs.ReadTerms.{read_int, var_named};
 
 use cyp_lex::Ident;
 use cyp_names::Scope;

@@ -5,7 +5,7 @@ ghost use Rattle.std.specs.List.{All, flat_map, list_any};
 ghost use Rattle.cyp_reading.specs.Readable.{HasSort, IntReadable, PartReadable, SetReadable};
 ghost use Rattle.cyp_term.specs.Terms.{term_eq, var_eq, with_all_new, with_new};
 ghost use Rattle.cyp_term.specs.declared.term.Sort.TheVariants.{Set};
-ghost use Rattle.cyp_text.specs.ReadTerms.{part_elems, part_vars, read_int, read_set, read_union, var_named};
+ghost use Rattle.cyp_names.specs.ReadTerms.{part_elems, part_vars, read_int, read_set, read_union, var_named};
 ghost use Rattle.cyp_text.specs.declared.tree.PartTree.TheVariants.{Braces, PartName};
 
 use crate::terms::read_int;

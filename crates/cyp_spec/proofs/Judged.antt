@@ -7,13 +7,14 @@ use Rattle.cyp_lex.specs.Spelling.{Match}
 use Rattle.cyp_lex.specs.Lexing.{Gives, tokens_of}
 use Rattle.cyp_lex.specs.declared.fault.Fault.{Fault}
 use Rattle.cyp_lex.specs.declared.token.Token.{Token}
-use Rattle.cyp_limits.proofs.LeastFaults.{none_least}
+use Rattle.cyp_spec.proofs.LeastFaults.{none_least}
 use Rattle.cyp_term.specs.declared.fail.Fail.{Fail}
 use Rattle.cyp_term.specs.declared.fail.Fail.TheVariants.{Named, NoMemory}
 use Rattle.cyp_spec.specs.ReadSpecs.{IsReadSpec, IsSaid}
 use Rattle.cyp_text.specs.Grammar.{text_spelling}
-use Rattle.cyp_text.specs.Reading.{IsReadBy, IsReading, IsReadingOf, judge, least_fault}
-use Rattle.cyp_text.specs.Specifications.{Specification}
+use Rattle.cyp_formed.specs.Reading.{IsReadBy, IsReading, IsReadingOf, judge}
+use Rattle.cyp_names.specs.FaultOrder.{least_fault}
+use Rattle.cyp_names.specs.Specifications.{Specification}
 use Rattle.cyp_text.specs.declared.tree.TextTree.{TextTree}
 
 -- where there is no least fault there is none

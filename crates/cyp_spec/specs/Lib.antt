@@ -1,1 +1,9 @@
+pub mod Elements
+pub mod GoalLimits
+pub mod InOrder
+pub mod KeepsSpec
+pub mod LimitParts
 pub mod ReadSpecs
+pub mod ReadingLaws
+pub mod Small
+pub mod WrittenGoals

@@ -4,8 +4,8 @@ use Rattle.cyp_lex.specs.Lexemes.{Lexeme}
 use Rattle.cyp_lex.specs.declared.fault.Fault.{Fault}
 use Rattle.cyp_term.specs.declared.fail.Fail.{Fail}
 use Rattle.cyp_term.specs.declared.fail.Fail.TheVariants.{Named, NoMemory}
-use Rattle.cyp_text.specs.Reading.{IsReadFrom, IsReading}
-use Rattle.cyp_text.specs.Specifications.{Specification}
+use Rattle.cyp_formed.specs.Reading.{IsReadFrom, IsReading}
+use Rattle.cyp_names.specs.Specifications.{Specification}
 
 -- what holds of the specification or the fault, unless memory ran out
 abbrev pub Unless : (Result Specification Fault → Type 0) → Result Specification (Fail Fault) → Type 0

@@ -1,18 +1,19 @@
 ghost use Rattle.std.specs.Prelude.{Ok, map, length, ◌≡◌, ◌≤◌};
 ghost use Rattle.cyp_lex.specs.Lexemes.{lexeme_of};
 ghost use Rattle.cyp_lex.specs.Lexing.{Gives, LieInOrder, tokens_of};
-ghost use Rattle.cyp_limits.specs.InOrder.{IsInOrder};
-ghost use Rattle.cyp_reading.specs.Small.{TextSmall};
+ghost use Rattle.cyp_spec.specs.InOrder.{IsInOrder};
+ghost use Rattle.cyp_spec.specs.Small.{TextSmall};
 ghost use Rattle.cyp_spec.specs.ReadSpecs.{IsReadSpec, IsSaid};
-ghost use Rattle.cyp_text.specs.Reading.{judge};
+ghost use Rattle.cyp_formed.specs.Reading.{judge};
 ghost use Rattle.cyp_text.specs.Stopping.{IsParsed};
 
+use crate::limits::limit_fault;
+use crate::reading::spec_of;
+use crate::spec::Spec;
 use cyp_lex::{Fault, FaultKind, Token, tokens};
-use cyp_limits::limit_fault;
 use cyp_names::name_fault;
-use cyp_reading::spec_of;
 use cyp_term::{Fail, List};
-use cyp_text::{Spec, TextTree, parse};
+use cyp_text::{TextTree, parse};
 use std::alloc::Global;
 
 /// The greatest number of bytes of a text.

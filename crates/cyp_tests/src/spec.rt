@@ -18,6 +18,10 @@ const ROWS: &[(&[u8], &[u8])] = &[
         b"void f(loc x, int n) { n >= 007 /\\ not (n in s) && true /\\ {n, n + 1} ++ s <=i t ; x :-> - 5 ** (4 + x) :-> n } { x :-> a }",
         b"void f(int x1, int x2) { 7 <= x2 && not (x2 in s1) && s1 ++ { x2, x2 + 1 } <=i s2 ; x1 :-> - 5 ** (x1 + 4) :-> x2 } { x1 :-> x3 }\n",
     ),
+    (
+        b"void f(loc x, int y) { {x, y + 3} =i {} && not (x in s ++ {7}) && y == -5 ; emp } { emp }",
+        b"void f(int x1, int x2) { { x1, x2 + 3 } =i { } && not (x1 in s1 ++ { 7 }) && x2 == - 5 ; emp } { emp }\n",
+    ),
 ];
 
 /// The text of the specification that a text is read as, or none where the text is refused.

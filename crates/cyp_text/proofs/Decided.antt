@@ -8,7 +8,7 @@ use Rattle.cyp_lex.specs.declared.want.Want.TheVariants.{AName, NoName}
 use Rattle.cyp_lex.proofs.Stops.{IsReading, IsStop}
 use Rattle.cyp_lex.proofs.Wholes.{spelled_once, whole_reads}
 use Rattle.cyp_text.specs.Grammar.{text_spelling}
-use Rattle.cyp_text.specs.ReadingLaws.{OneTree}
+use Rattle.cyp_text.specs.GrammarLaws.{OneTree}
 use Rattle.cyp_text.specs.TextReaders.{text_at}
 use Rattle.cyp_text.specs.declared.tree.TextTree.{TextTree}
 use Rattle.cyp_text.specs.GrammarFaults.{AllowsName, name_at}

@@ -19,7 +19,7 @@ use Rattle.cyp_prog.specs.Programs.{Body, End, Invoking, Loading, Then}
 use Rattle.cyp_prog.specs.declared.stmt.Expr.{Expr}
 use Rattle.cyp_search.specs.Reports.{NoneFound, PlainReport}
 use Rattle.cyp_search.specs.Reports.{Spent as BudgetSpent}
-use Rattle.cyp_text.specs.Reading.{IsReading, IsReadingOf}
+use Rattle.cyp_formed.specs.Reading.{IsReading, IsReadingOf}
 use Rattle.cyp_step.specs.declared.rule.Rule.{Rule}
 use Rattle.cyp_top.specs.Chain.{chain_lines}
 use Rattle.cyp_top.specs.Lines.{output, words_refused}

@@ -11,8 +11,8 @@ use Rattle.cyp_term.specs.declared.fail.Fail.{Fail}
 use Rattle.cyp_term.specs.declared.fail.Fail.TheVariants.{Named}
 use Rattle.cyp_term.specs.declared.fail.NoMemory.{NoMemory}
 use Rattle.cyp_text.proofs.Decided.{one_tree}
-use Rattle.cyp_text.proofs.Unique.{one_reading}
-use Rattle.cyp_text.specs.Specifications.{Specification}
+use Rattle.cyp_spec.proofs.Unique.{one_reading}
+use Rattle.cyp_names.specs.Specifications.{Specification}
 use Rattle.cyp_top.specs.Given.{IsFoundVerdict, plain_answer}
 use Rattle.cyp_top.specs.Lines.{Output, output, verdict_output}
 use Rattle.cyp_top.specs.Output.{IsOutputBy, IsSynthOutput, goal_space, specification_output, synth_output}

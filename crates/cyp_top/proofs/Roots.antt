@@ -8,8 +8,8 @@ use Rattle.cyp_heap.specs.Limits.{is_goal_within}
 use Rattle.cyp_heap.specs.declared.goal.Goal.{Goal}
 use Rattle.cyp_heap.specs.declared.goal.Node.{Node}
 use Rattle.cyp_heap.specs.declared.pred.Preds.{Preds}
-use Rattle.cyp_text.specs.KeepsSpec.{KeepsSpec}
-use Rattle.cyp_text.specs.Specifications.{Specification}
+use Rattle.cyp_spec.specs.KeepsSpec.{KeepsSpec}
+use Rattle.cyp_names.specs.Specifications.{Specification}
 use Rattle.cyp_top.specs.Roots.{node_or, root_of, spec_node}
 
 -- the instances of a goal that is formed fit

@@ -7,7 +7,7 @@ use Rattle.std.specs.Fmt.{digits}
 use Rattle.std.specs.Prelude.{codes}
 use Rattle.cyp_lex.specs.declared.fault.Fault.{Fault}
 use Rattle.cyp_lex.specs.declared.fault.FaultKind.TheVariants.{TooLong}
-use Rattle.cyp_text.specs.Reading.{IsReadingOf}
+use Rattle.cyp_formed.specs.Reading.{IsReadingOf}
 use Rattle.cyp_top.specs.Answers.{Answers, End, IsSaid, Sends, Whole, left_of}
 use Rattle.cyp_top.specs.Lines.{Output, output, words_refused}
 use Rattle.cyp_top.specs.Output.{IsOutputBy, IsSynthOutput}

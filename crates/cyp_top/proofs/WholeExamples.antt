@@ -4,8 +4,8 @@ use Rattle.std.specs.Fmt.{digits}
 use Rattle.std.specs.Prelude.{codes}
 use Rattle.cyp_lex.specs.Lexing.{lexed, name_kind, piece_at, sign_at, stands}
 use Rattle.cyp_lex.specs.declared.fault.FaultKind.TheVariants.{GuardsOverlap}
-use Rattle.cyp_text.proofs.ExampleForms.{refused, tree_of}
-use Rattle.cyp_text.specs.Reading.{judge}
+use Rattle.cyp_spec.proofs.ExampleForms.{refused, tree_of}
+use Rattle.cyp_formed.specs.Reading.{judge}
 use Rattle.cyp_term.specs.Entailment.{arrangement_fits, arrangements, class_literals, entailed, satisfiable}
 use Rattle.cyp_term.specs.Integers.{all_cases, both, eliminate, eliminate_all, feasible, ints_fit, joined}
 use Rattle.cyp_term.specs.Regions.{all_set_vars, all_terms, regions_fit}

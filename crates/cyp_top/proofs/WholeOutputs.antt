@@ -7,9 +7,9 @@ use Rattle.cyp_machine.proofs.Inputs.{one_input_reading, some_input_reading}
 use Rattle.cyp_machine.specs.RunInput.{IsInputReading, RunInput}
 use Rattle.cyp_prog.specs.Faults.{ProgFault}
 use Rattle.cyp_text.proofs.Decided.{one_tree, parsed}
-use Rattle.cyp_text.proofs.Exists.{some_reading}
-use Rattle.cyp_text.proofs.Unique.{one_reading}
-use Rattle.cyp_text.specs.Specifications.{Specification}
+use Rattle.cyp_spec.proofs.Exists.{some_reading}
+use Rattle.cyp_spec.proofs.Unique.{one_reading}
+use Rattle.cyp_names.specs.Specifications.{Specification}
 use Rattle.cyp_top.proofs.RunOutputs.{one_run_output, some_run_output}
 use Rattle.cyp_top.specs.Chain.{gen_output}
 use Rattle.cyp_top.specs.Lines.{Output, words_refused}

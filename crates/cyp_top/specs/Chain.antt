@@ -7,7 +7,7 @@ use Rattle.cyp_heap.specs.declared.goal.Node.{Node}
 use Rattle.cyp_pred.specs.Unfold.{count_from, new_ints}
 use Rattle.cyp_search.specs.Reports.{Found, NoneFound, PlainReport, PlainVerdict}
 use Rattle.cyp_search.specs.Reports.{Spent as BudgetSpent}
-use Rattle.cyp_text.specs.Specifications.{Specification}
+use Rattle.cyp_names.specs.Specifications.{Specification}
 use Rattle.cyp_step.specs.declared.rule.Rule.{Rule}
 use Rattle.cyp_term.specs.Terms.{number_term, plus, var_term}
 use Rattle.cyp_term.specs.declared.lit.Lit.{Lit}

@@ -6,8 +6,8 @@ use Rattle.cyp_lex.specs.declared.fault.Fault.{Fault}
 use Rattle.cyp_moves.specs.Moves.{moves, weight}
 use Rattle.cyp_search.specs.Reports.{PlainReport, report}
 use Rattle.cyp_step.specs.declared.rule.Rule.{Rule}
-use Rattle.cyp_text.specs.Reading.{IsReading}
-use Rattle.cyp_text.specs.Specifications.{Specification}
+use Rattle.cyp_formed.specs.Reading.{IsReading}
+use Rattle.cyp_names.specs.Specifications.{Specification}
 use Rattle.cyp_top.specs.Lines.{Output, verdict_output, words_refused}
 use Rattle.cyp_top.specs.Reports.{fault_name, refused_at}
 use Rattle.cyp_top.specs.Roots.{root_of}

@@ -2,7 +2,7 @@
 use Rattle.std.specs.Prelude.{None, Option, Some, []}
 use Rattle.cyp_goal.specs.Normal.{Renaming, normal}
 use Rattle.cyp_heap.specs.declared.goal.Node.{Node}
-use Rattle.cyp_text.specs.Specifications.{Specification}
+use Rattle.cyp_names.specs.Specifications.{Specification}
 
 -- the specification's goal as a node without companions
 abbrev pub spec_node : Specification → Node

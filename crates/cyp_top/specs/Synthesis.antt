@@ -4,8 +4,8 @@ use Rattle.cyp_heap.specs.declared.goal.Node.{Node}
 use Rattle.cyp_lex.specs.declared.fault.Fault.{Fault}
 use Rattle.cyp_moves.specs.Moves.{is_any, moves_of_kinds, weight}
 use Rattle.cyp_search.specs.Reports.{PlainReport, report}
-use Rattle.cyp_text.specs.Reading.{IsReading}
-use Rattle.cyp_text.specs.Specifications.{Specification}
+use Rattle.cyp_formed.specs.Reading.{IsReading}
+use Rattle.cyp_names.specs.Specifications.{Specification}
 use Rattle.cyp_step.specs.declared.rule.Rule.{Rule}
 use Rattle.cyp_top.specs.Lines.{Output, verdict_output}
 use Rattle.cyp_top.specs.Reports.{fault_name, followed_by, refused_at, stats_if}

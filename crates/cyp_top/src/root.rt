@@ -1,7 +1,7 @@
 //! The root of the search for a program of a specification.
 
 ghost use Rattle.std.specs.Prelude.{IfOk, ◌≡◌};
-ghost use Rattle.cyp_text.specs.KeepsSpec.{KeepsSpec};
+ghost use Rattle.cyp_spec.specs.KeepsSpec.{KeepsSpec};
 ghost use Rattle.cyp_top.specs.Roots.{root_of, spec_node};
 
 use cyp_goal::normal;

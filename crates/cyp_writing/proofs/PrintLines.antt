@@ -12,8 +12,8 @@ use Rattle.cyp_lex.specs.declared.token.Sign.TheVariants.{LeftBracket, LeftParen
 use Rattle.cyp_writing.specs.PrintMarks.{Printed, blank_if, edge_of, takes_blank, with_lines, with_marks, with_said}
 use Rattle.cyp_writing.specs.declared.printer.Edge.{Edge}
 use Rattle.cyp_writing.specs.declared.printer.Edge.TheVariants.{LineStart}
-use Rattle.cyp_text.specs.Printing.{is_closing, is_paren, is_tight, line_of, mark_said, pred_line, proc_line, said_text, spaced, spaced_behind, specification_text}
-use Rattle.cyp_text.specs.Specifications.{Specification}
+use Rattle.cyp_writing.specs.Printing.{is_closing, is_paren, is_tight, line_of, mark_said, pred_line, proc_line, said_text, spaced, spaced_behind, specification_text}
+use Rattle.cyp_names.specs.Specifications.{Specification}
 
 turned : (b : Bool) → blank_if (not b) ≡ cond b [] (codes " ")
 turned true = refl
@@ -84,15 +84,10 @@ pub line_begins : (p : Printed) (bs : List ℕ) → p ≡ with_lines [] bs → p
 line_begins p bs e = ap (λ (s : Printed). s.edge) e
 
 -- all lines, and the last
-pub text_written : (s : Specification) (preds : Preds) (list : List Pred) (name : List ℕ) (goal : Goal) (i : ℕ) (p q : Printed) (t : List ℕ)
-    → preds ≡ s.preds → list ≡ preds.list → name ≡ s.name → goal ≡ s.goal → length list ≤ i
-    → p ≡ with_lines [] (flat_map (pred_line preds) (take i list)) → q ≡ with_lines p.bytes (proc_line (record { preds = preds; name = name; goal = goal })) → t ≡ q.bytes
-    → t ≡ specification_text s
-text_written s preds list name goal i p q t same_preds same_list same_name same_goal ends before last out =
-    let here : Specification = record { preds = preds; name = name; goal = goal } in
-    let same : here ≡ s = λ j. record { preds = same_preds j; name = same_name j; goal = same_goal j } in
+pub text_written : (s : Specification) (list : List Pred) (i : ℕ) (p q : Printed) (t : List ℕ) → list ≡ s.preds.list → length list ≤ i
+    → p ≡ with_lines [] (flat_map (pred_line s.preds) (take i list)) → q ≡ with_lines p.bytes (proc_line s) → t ≡ q.bytes → t ≡ specification_text s
+text_written s list i p q t same_list ends before last out =
     out
     ∙ ap (λ (r : Printed). r.bytes) last
-    ∙ ap (λ (r : Printed). r.bytes ++ proc_line here) before
-    ∙ ap (λ (ls : List Pred). flat_map (pred_line preds) ls ++ proc_line here) (take_all i list ends ∙ same_list)
-    ∙ ap specification_text same
+    ∙ ap (λ (r : Printed). r.bytes ++ proc_line s) before
+    ∙ ap (λ (ls : List Pred). flat_map (pred_line s.preds) ls ++ proc_line s) (take_all i list ends ∙ same_list)

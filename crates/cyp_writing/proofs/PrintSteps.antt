@@ -2,7 +2,7 @@
 use Rattle.std.proofs.Common.{◌≡◌, ◌++◌, ◌∙◌, ◌∷◌, [], List, ap, refl, sym}
 use Rattle.cyp_lex.specs.Spelling.{Mark}
 use Rattle.cyp_writing.specs.PrintMarks.{Printed, with_marks, with_said}
-use Rattle.cyp_text.specs.Printing.{mark_said}
+use Rattle.cyp_writing.specs.Printing.{mark_said}
 
 pub with_marks_append : (p : Printed) (xs ys : List Mark) → with_marks p (xs ++ ys) ≡ with_marks (with_marks p xs) ys
 with_marks_append p [] ys = refl

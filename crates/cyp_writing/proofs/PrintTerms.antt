@@ -12,7 +12,7 @@ use Rattle.cyp_term.specs.declared.lit.SetTerm.{SetTerm}
 use Rattle.cyp_term.specs.declared.term.Term.{Term}
 use Rattle.cyp_term.specs.declared.term.Var.{Var}
 use Rattle.cyp_text.specs.Grammar.{arg_spelling, braces_spelling, int_spelling, part_spelling, set_spelling}
-use Rattle.cyp_text.specs.PrintedTrees.{braces_of, term_tree, union_arg, union_tree, var_ident}
+use Rattle.cyp_writing.specs.PrintedTrees.{braces_of, term_tree, union_arg, union_tree, var_ident}
 use Rattle.cyp_text.specs.declared.tree.PartTree.{PartTree}
 use Rattle.cyp_text.specs.declared.tree.PartTree.TheVariants.{Braces, PartName}
 

@@ -18,7 +18,7 @@ use Rattle.cyp_term.specs.declared.lit.Lit.{Lit}
 use Rattle.cyp_term.specs.declared.term.Sort.{Sort}
 use Rattle.cyp_term.specs.declared.term.Var.{Var}
 use Rattle.cyp_text.specs.Grammar.{arg_spelling, chunk_spelling, heap_spelling, later_item, param_spelling, params_spelling, pure_spelling}
-use Rattle.cyp_text.specs.PrintedTrees.{arg_tree, chunk_tree, later_tree, param_tree, params_from, pure_tree}
+use Rattle.cyp_writing.specs.PrintedTrees.{arg_tree, chunk_tree, later_tree, param_tree, params_from, pure_tree}
 
 -- ---- pure parts
 

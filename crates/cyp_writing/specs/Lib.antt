@@ -1,3 +1,4 @@
-pub mod Examples
 pub mod PrintMarks
 pub mod PrintParts
+pub mod PrintedTrees
+pub mod Printing

@@ -5,7 +5,7 @@ use Rattle.cyp_lex.specs.Spelling.{Mark}
 use Rattle.cyp_lex.specs.declared.token.Sign.TheVariants.{LeftBracket, LeftParen}
 use Rattle.cyp_writing.specs.declared.printer.Edge.{Edge}
 use Rattle.cyp_writing.specs.declared.printer.Edge.TheVariants.{AfterName, AfterOpening, AfterOther, LineStart}
-use Rattle.cyp_text.specs.Printing.{is_closing, is_paren, mark_said, said_text}
+use Rattle.cyp_writing.specs.Printing.{is_closing, is_paren, mark_said, said_text}
 
 -- the bytes that are written, and what stands before the next token
 pub record Printed : Type 0 where

@@ -14,7 +14,7 @@ use Rattle.cyp_term.specs.declared.lit.SetTerm.{SetTerm}
 use Rattle.cyp_term.specs.declared.term.Term.{Term}
 use Rattle.cyp_term.specs.declared.term.Var.{Var}
 use Rattle.cyp_text.specs.Grammar.{arg_spelling, braces_spelling, chunk_spelling, clause_spelling, int_spelling, lit_spelling, param_spelling, set_spelling, sort_word}
-use Rattle.cyp_text.specs.PrintedTrees.{arg_tree, chunk_tree, clause_tree, ident_of, lit_tree, param_tree, set_tree, sort_letter, sort_tree, term_tree, var_ident}
+use Rattle.cyp_writing.specs.PrintedTrees.{arg_tree, chunk_tree, clause_tree, ident_of, lit_tree, param_tree, set_tree, sort_letter, sort_tree, term_tree, var_ident}
 use Rattle.cyp_text.specs.declared.tree.IntTree.{IntTree}
 use Rattle.cyp_text.specs.declared.tree.IntTree.TheVariants.{Named}
 

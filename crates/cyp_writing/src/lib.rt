@@ -10,7 +10,4 @@ mod printed_terms;
 mod printer;
 mod written;
 
-pub use written::write_spec;
-
-#[cfg(test)]
-mod printing_tests;
+pub use written::spec_text;

@@ -2,7 +2,7 @@ ghost use Rattle.std.specs.Prelude.{OnOk, map, ◌≡◌};
 ghost use Rattle.cyp_writing.specs.PrintMarks.{with_marks};
 ghost use Rattle.cyp_writing.specs.PrintParts.{clause_marks};
 ghost use Rattle.cyp_text.specs.Grammar.{heap_spelling, in_braces, pure_spelling};
-ghost use Rattle.cyp_text.specs.PrintedTrees.{body_tree, chunk_tree, pure_tree};
+ghost use Rattle.cyp_writing.specs.PrintedTrees.{body_tree, chunk_tree, pure_tree};
 
 use crate::printed_lists::{Print, print_apart};
 use crate::printer::Printer;

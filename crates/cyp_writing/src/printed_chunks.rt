@@ -4,7 +4,7 @@ ghost use Rattle.cyp_heap.specs.declared.chunk.Chunk.TheVariants.{Block, Cell, I
 ghost use Rattle.cyp_heap.specs.declared.pred.Preds.{Preds};
 ghost use Rattle.cyp_writing.specs.PrintMarks.{with_marks, with_said};
 ghost use Rattle.cyp_writing.specs.PrintParts.{address_marks, arg_marks, chunk_marks};
-ghost use Rattle.cyp_text.specs.PrintedTrees.{pred_name, term_tree};
+ghost use Rattle.cyp_writing.specs.PrintedTrees.{pred_name, term_tree};
 
 use crate::printed_lists::{Print, print_apart};
 use crate::printer::Printer;

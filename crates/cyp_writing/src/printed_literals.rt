@@ -4,7 +4,7 @@ ghost use Rattle.cyp_lex.specs.declared.token.Word.TheVariants.{In};
 ghost use Rattle.cyp_writing.specs.PrintMarks.{with_marks};
 ghost use Rattle.cyp_writing.specs.PrintParts.{lit_marks, negated_marks, negation_marks, set_marks};
 ghost use Rattle.cyp_text.specs.Grammar.{int_spelling};
-ghost use Rattle.cyp_text.specs.PrintedTrees.{term_tree};
+ghost use Rattle.cyp_writing.specs.PrintedTrees.{term_tree};
 
 use crate::printed_lists::Print;
 use crate::printer::Printer;

@@ -3,7 +3,7 @@ ghost use Rattle.cyp_writing.specs.PrintMarks.{with_marks};
 ghost use Rattle.cyp_writing.specs.PrintParts.{numbered_marks, param_marks, param_of};
 ghost use Rattle.cyp_term.specs.Terms.{sort_eq};
 ghost use Rattle.cyp_text.specs.Grammar.{params_spelling, sort_word};
-ghost use Rattle.cyp_text.specs.PrintedTrees.{param_tree, params_from, sort_tree};
+ghost use Rattle.cyp_writing.specs.PrintedTrees.{param_tree, params_from, sort_tree};
 
 use crate::printed_lists::{Print, print_apart};
 use crate::printer::Printer;

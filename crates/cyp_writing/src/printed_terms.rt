@@ -5,7 +5,7 @@ ghost use Rattle.cyp_lex.specs.declared.token.Sign.TheVariants.{TwoPluses};
 ghost use Rattle.cyp_writing.specs.PrintMarks.{with_marks};
 ghost use Rattle.cyp_writing.specs.PrintParts.{constant_marks, elem_marks, offset_marks, set_marks, term_marks, var_marks};
 ghost use Rattle.cyp_text.specs.Grammar.{braces_spelling, int_spelling};
-ghost use Rattle.cyp_text.specs.PrintedTrees.{term_tree};
+ghost use Rattle.cyp_writing.specs.PrintedTrees.{term_tree};
 
 use crate::printed_lists::{Print, print_apart};
 use crate::printer::Printer;

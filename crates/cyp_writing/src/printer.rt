@@ -3,8 +3,8 @@ ghost use Rattle.cyp_lex.specs.Lexemes.{Name, Number, Reserved, Symbol};
 ghost use Rattle.cyp_lex.specs.declared.token.Word.{Word};
 ghost use Rattle.cyp_writing.specs.declared.printer.Edge.TheVariants.{AfterName, LineStart};
 ghost use Rattle.cyp_writing.specs.PrintMarks.{blank_if, edge_of, takes_blank, with_said};
-ghost use Rattle.cyp_text.specs.Printing.{is_closing};
-ghost use Rattle.cyp_text.specs.PrintedTrees.{sort_letter};
+ghost use Rattle.cyp_writing.specs.Printing.{is_closing};
+ghost use Rattle.cyp_writing.specs.PrintedTrees.{sort_letter};
 
 use cyp_lex::{Sign, Word};
 use cyp_term::{List, NoMemory, Sort, Text};

@@ -1,14 +1,13 @@
 ghost use Rattle.std.specs.Prelude.{IfOk, OnOk, ◌≡◌};
 ghost use Rattle.cyp_writing.specs.PrintMarks.{with_lines};
 ghost use Rattle.cyp_writing.specs.declared.printer.Edge.TheVariants.{LineStart};
-ghost use Rattle.cyp_text.specs.Printing.{pred_line, proc_line, specification_text};
+ghost use Rattle.cyp_writing.specs.Printing.{pred_line, proc_line, specification_text};
 
 use crate::printed_lists::print_all;
 use crate::printer::Printer;
 use cyp_heap::{Goal, Pred, Preds};
 use cyp_lex::{Sign, Word};
 use cyp_term::{NoMemory, Text};
-use cyp_text::Spec;
 use std::alloc::Global;
 
 impl Printer {
@@ -45,15 +44,15 @@ impl Printer {
     }
 }
 
-/// The text of a specification: each predicate and then the procedure on a line.
-pub fn write_spec(alloc: Global, spec: &Spec) -> Result<Text, NoMemory>
-    ensures { IfOk result (λ t. t ≡ specification_text spec.now) }
+/// The text of the specification of a procedure of this name with this goal: each predicate and
+/// then the procedure on a line.
+pub fn spec_text(alloc: Global, preds: &Preds, name: &[u8], goal: &Goal) -> Result<Text, NoMemory>
+    ensures { IfOk result (λ t. t ≡ specification_text (record { preds = preds.now; name = name.now; goal = goal.now })) }
 {
     let mut printer = Printer::new(alloc);
-    let preds = spec.preds().get();
     for pred in preds.list() {
         printer.pred_line(alloc, preds, pred)?;
     }
-    printer.proc_line(preds, spec.name().as_slice(), spec.goal())?;
+    printer.proc_line(preds, name, goal)?;
     Ok(printer.into_text())
 }

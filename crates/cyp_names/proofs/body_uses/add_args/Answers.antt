@@ -1,7 +1,7 @@
 use Rattle.std.proofs.Common.{map}
 use Rattle.cyp_names.proofs.EachKind.{arg_added}
 use Rattle.cyp_names.specs.Orders.{parts_in}
-use Rattle.cyp_text.specs.Uses.{param_sort}
+use Rattle.cyp_names.specs.Uses.{param_sort}
 use Rattle.cyp_names.proofs.body_uses.add_args.Goals as goal
 
 pub loop-place-preserved : goal.loop-place-preserved

@@ -1,6 +1,6 @@
 use Rattle.std.proofs.Common.{◌≡◌, ◌++◌, drop, map}
 use Rattle.cyp_names.specs.Orders.{parts_in}
-use Rattle.cyp_text.specs.Uses.{args_uses, param_sort}
+use Rattle.cyp_names.specs.Uses.{args_uses, param_sort}
 use Rattle.cyp_names.proofs.body_uses.add_args.Given as goal
 
 abbrev pub invariant-loop-place : goal.invariant-loop-place

@@ -1,5 +1,5 @@
 use Rattle.std.proofs.Common.{◌≡◌, ◌++◌, drop}
-use Rattle.cyp_text.specs.Uses.{param_uses}
+use Rattle.cyp_names.specs.Uses.{param_uses}
 use Rattle.cyp_names.proofs.body_uses.add_params.Given as goal
 
 abbrev pub invariant-loop-param : goal.invariant-loop-param

@@ -1,8 +1,8 @@
 use Rattle.std.proofs.Common.{List, ap, flat_map, ◌++◌, ◌∙◌}
 use Rattle.cyp_names.proofs.LesserFaults.{least_of_two}
 use Rattle.cyp_names.specs.LeastFaults.{clause_sorts}
-use Rattle.cyp_text.specs.NameFaults.{chunk_faults, guard_faults}
-use Rattle.cyp_text.specs.Reading.{least_fault}
+use Rattle.cyp_names.specs.NameFaults.{chunk_faults, guard_faults}
+use Rattle.cyp_names.specs.FaultOrder.{least_fault}
 use Rattle.cyp_text.specs.declared.tree.ChunkTree.{ChunkTree}
 use Rattle.cyp_names.proofs.clauses.clause_fault.Goals as goal
 

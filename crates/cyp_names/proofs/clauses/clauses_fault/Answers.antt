@@ -1,5 +1,5 @@
 use Rattle.cyp_names.proofs.LesserFaults.{least_more}
-use Rattle.cyp_text.specs.NameFaults.{clause_faults}
+use Rattle.cyp_names.specs.NameFaults.{clause_faults}
 use Rattle.cyp_names.proofs.clauses.clauses_fault.Goals as goal
 
 pub loop-clause-preserved : goal.loop-clause-preserved

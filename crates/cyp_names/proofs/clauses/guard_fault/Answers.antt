@@ -2,9 +2,9 @@ use Rattle.std.proofs.Common.{List, ap, flat_map, ◌∙◌}
 use Rattle.cyp_names.proofs.EachKind.{added_alone}
 use Rattle.cyp_names.proofs.LesserFaults.{least_of_two}
 use Rattle.cyp_names.specs.LeastFaults.{set_guard_fault}
-use Rattle.cyp_text.specs.NameFaults.{unbound_fault}
-use Rattle.cyp_text.specs.Reading.{least_fault}
-use Rattle.cyp_text.specs.Uses.{Use, lit_uses}
+use Rattle.cyp_names.specs.NameFaults.{unbound_fault}
+use Rattle.cyp_names.specs.FaultOrder.{least_fault}
+use Rattle.cyp_names.specs.Uses.{Use, lit_uses}
 use Rattle.cyp_names.proofs.clauses.guard_fault.Goals as goal
 
 pub returns : goal.returns

@@ -1,7 +1,7 @@
 use Rattle.std.proofs.Common.{List, [], ap, flat_map, ◌++◌, ◌∙◌}
 use Rattle.cyp_names.proofs.LesserFaults.{least_of_two}
-use Rattle.cyp_text.specs.NameFaults.{clause_faults, param_names, repeats}
-use Rattle.cyp_text.specs.Reading.{least_fault}
+use Rattle.cyp_names.specs.NameFaults.{clause_faults, param_names, repeats}
+use Rattle.cyp_names.specs.FaultOrder.{least_fault}
 use Rattle.cyp_text.specs.declared.tree.ParamTree.{ParamTree}
 use Rattle.cyp_names.proofs.clauses.pred_fault.Goals as goal
 

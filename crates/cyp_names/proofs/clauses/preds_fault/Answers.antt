@@ -1,5 +1,5 @@
 use Rattle.cyp_names.proofs.LesserFaults.{least_more}
-use Rattle.cyp_text.specs.NameFaults.{pred_faults}
+use Rattle.cyp_names.specs.NameFaults.{pred_faults}
 use Rattle.cyp_names.proofs.clauses.preds_fault.Goals as goal
 
 pub loop-pred-preserved : goal.loop-pred-preserved

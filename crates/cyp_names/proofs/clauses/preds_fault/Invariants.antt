@@ -1,7 +1,7 @@
 use Rattle.std.proofs.Common.{◌≡◌, drop, flat_map}
 use Rattle.cyp_names.specs.LeastFaults.{lesser_of}
-use Rattle.cyp_text.specs.NameFaults.{pred_faults}
-use Rattle.cyp_text.specs.Reading.{least_fault}
+use Rattle.cyp_names.specs.NameFaults.{pred_faults}
+use Rattle.cyp_names.specs.FaultOrder.{least_fault}
 use Rattle.cyp_names.proofs.clauses.preds_fault.Given as goal
 
 abbrev pub invariant-loop-pred : goal.invariant-loop-pred

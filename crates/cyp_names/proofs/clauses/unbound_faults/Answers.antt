@@ -1,5 +1,5 @@
 use Rattle.cyp_names.proofs.LesserFaults.{least_more}
-use Rattle.cyp_text.specs.NameFaults.{unbound_fault}
+use Rattle.cyp_names.specs.NameFaults.{unbound_fault}
 use Rattle.cyp_names.proofs.clauses.unbound_faults.Goals as goal
 
 pub loop-used-preserved : goal.loop-used-preserved

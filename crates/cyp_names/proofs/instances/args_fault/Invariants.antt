@@ -1,8 +1,8 @@
 use Rattle.std.proofs.Common.{◌≡◌, drop, map}
 use Rattle.cyp_names.specs.LeastFaults.{lesser_of}
-use Rattle.cyp_text.specs.NameFaults.{arg_faults}
-use Rattle.cyp_text.specs.Reading.{least_fault}
-use Rattle.cyp_text.specs.Uses.{param_sort}
+use Rattle.cyp_names.specs.NameFaults.{arg_faults}
+use Rattle.cyp_names.specs.FaultOrder.{least_fault}
+use Rattle.cyp_names.specs.Uses.{param_sort}
 use Rattle.cyp_names.proofs.instances.args_fault.Given as goal
 
 abbrev pub invariant-loop-place : goal.invariant-loop-place

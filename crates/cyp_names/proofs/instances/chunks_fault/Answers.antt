@@ -1,5 +1,5 @@
 use Rattle.cyp_names.proofs.LesserFaults.{least_more}
-use Rattle.cyp_text.specs.NameFaults.{chunk_faults}
+use Rattle.cyp_names.specs.NameFaults.{chunk_faults}
 use Rattle.cyp_names.proofs.instances.chunks_fault.Goals as goal
 
 pub loop-chunk-preserved : goal.loop-chunk-preserved

@@ -1,7 +1,7 @@
 use Rattle.std.proofs.Common.{[], flat_map, map, ◌++◌, ◌∙◌}
 use Rattle.cyp_names.proofs.LesserFaults.{least_of_two}
-use Rattle.cyp_text.specs.NameFaults.{pred_faults, proc_faults, repeats}
-use Rattle.cyp_text.specs.Reading.{least_fault}
+use Rattle.cyp_names.specs.NameFaults.{pred_faults, proc_faults, repeats}
+use Rattle.cyp_names.specs.FaultOrder.{least_fault}
 use Rattle.cyp_text.specs.declared.tree.PredTree.{PredTree}
 use Rattle.cyp_names.proofs.name_faults.name_fault.Goals as goal
 

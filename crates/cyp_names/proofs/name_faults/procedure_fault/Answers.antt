@@ -2,8 +2,8 @@ use Rattle.std.proofs.Common.{[], ap, flat_map, sym, ◌++◌, ◌∙◌}
 use Rattle.std.proofs.lemmas.Grind.{flat_map-append}
 use Rattle.cyp_names.proofs.LesserFaults.{least_of_two}
 use Rattle.cyp_names.specs.LeastFaults.{proc_sorts}
-use Rattle.cyp_text.specs.NameFaults.{chunk_faults, param_names, repeats, set_param_fault}
-use Rattle.cyp_text.specs.Reading.{least_fault}
+use Rattle.cyp_names.specs.NameFaults.{chunk_faults, param_names, repeats, set_param_fault}
+use Rattle.cyp_names.specs.FaultOrder.{least_fault}
 use Rattle.cyp_names.proofs.name_faults.procedure_fault.Goals as goal
 
 pub returns : goal.returns

@@ -3,10 +3,10 @@ use Rattle.std.proofs.lemmas.Result.{IfOk-weaker}
 use Rattle.cyp_lex.specs.declared.fault.Fault.{Fault}
 use Rattle.cyp_names.proofs.EachKind.{added_alone, added_twice}
 use Rattle.cyp_names.specs.LeastFaults.{proc_sorts}
-use Rattle.cyp_text.specs.Bodies.{body_uses}
-use Rattle.cyp_text.specs.NameFaults.{sort_faults}
-use Rattle.cyp_text.specs.Reading.{least_fault}
-use Rattle.cyp_text.specs.Uses.{param_uses}
+use Rattle.cyp_names.specs.Bodies.{body_uses}
+use Rattle.cyp_names.specs.NameFaults.{sort_faults}
+use Rattle.cyp_names.specs.FaultOrder.{least_fault}
+use Rattle.cyp_names.specs.Uses.{param_uses}
 use Rattle.cyp_names.proofs.name_faults.procedure_sort_fault.Goals as goal
 
 pub returns : goal.returns

@@ -1,5 +1,5 @@
 use Rattle.cyp_names.proofs.LesserFaults.{least_more}
-use Rattle.cyp_text.specs.NameFaults.{set_param_fault}
+use Rattle.cyp_names.specs.NameFaults.{set_param_fault}
 use Rattle.cyp_names.proofs.name_faults.set_params_fault.Goals as goal
 
 pub loop-param-preserved : goal.loop-param-preserved

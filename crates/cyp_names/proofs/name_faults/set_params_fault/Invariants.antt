@@ -1,7 +1,7 @@
 use Rattle.std.proofs.Common.{◌≡◌, drop, flat_map}
 use Rattle.cyp_names.specs.LeastFaults.{lesser_of}
-use Rattle.cyp_text.specs.NameFaults.{set_param_fault}
-use Rattle.cyp_text.specs.Reading.{least_fault}
+use Rattle.cyp_names.specs.NameFaults.{set_param_fault}
+use Rattle.cyp_names.specs.FaultOrder.{least_fault}
 use Rattle.cyp_names.proofs.name_faults.set_params_fault.Given as goal
 
 abbrev pub invariant-loop-param : goal.invariant-loop-param

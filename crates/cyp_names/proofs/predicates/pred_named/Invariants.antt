@@ -1,5 +1,5 @@
 use Rattle.std.proofs.Common.{◌≡◌, drop}
-use Rattle.cyp_text.specs.Uses.{pred_named}
+use Rattle.cyp_names.specs.Uses.{pred_named}
 use Rattle.cyp_names.proofs.predicates.pred_named.Given as goal
 
 abbrev pub invariant-loop-pred : goal.invariant-loop-pred

@@ -1,5 +1,5 @@
 use Rattle.std.proofs.Common.{◌≡◌, ◌+◌, drop}
-use Rattle.cyp_text.specs.Uses.{pred_place}
+use Rattle.cyp_names.specs.Uses.{pred_place}
 use Rattle.cyp_names.proofs.predicates.pred_place.Given as goal
 
 abbrev pub invariant-loop-place : goal.invariant-loop-place

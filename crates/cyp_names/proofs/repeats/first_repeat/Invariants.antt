@@ -1,7 +1,7 @@
 use Rattle.std.proofs.Common.{[], ◌≡◌, drop, map, take}
 use Rattle.cyp_names.specs.LeastFaults.{lesser_of}
-use Rattle.cyp_text.specs.NameFaults.{repeats}
-use Rattle.cyp_text.specs.Reading.{least_fault}
+use Rattle.cyp_names.specs.NameFaults.{repeats}
+use Rattle.cyp_names.specs.FaultOrder.{least_fault}
 use Rattle.cyp_names.proofs.repeats.first_repeat.Given as goal
 
 abbrev pub invariant-loop-place : goal.invariant-loop-place

@@ -1,5 +1,5 @@
 use Rattle.std.proofs.Common.{◌≡◌, drop}
-use Rattle.cyp_text.specs.NameFaults.{known_sort}
+use Rattle.cyp_names.specs.NameFaults.{known_sort}
 use Rattle.cyp_names.proofs.sorts.known_sort.Given as goal
 
 abbrev pub invariant-loop-used : goal.invariant-loop-used

@@ -1,7 +1,7 @@
 use Rattle.std.proofs.Common.{◌≡◌, drop}
 use Rattle.cyp_names.specs.LeastFaults.{lesser_of}
-use Rattle.cyp_text.specs.NameFaults.{sort_faults}
-use Rattle.cyp_text.specs.Reading.{least_fault}
+use Rattle.cyp_names.specs.NameFaults.{sort_faults}
+use Rattle.cyp_names.specs.FaultOrder.{least_fault}
 use Rattle.cyp_names.proofs.sorts.sort_fault.Given as goal
 
 abbrev pub invariant-loop-used : goal.invariant-loop-used

@@ -1,5 +1,5 @@
 use Rattle.std.proofs.Common.{◌≡◌, ◌++◌, drop, flat_map}
-use Rattle.cyp_text.specs.Uses.{int_uses}
+use Rattle.cyp_names.specs.Uses.{int_uses}
 use Rattle.cyp_names.proofs.uses.add_ints.Given as goal
 
 abbrev pub invariant-loop-term : goal.invariant-loop-term

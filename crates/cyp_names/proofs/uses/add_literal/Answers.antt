@@ -1,7 +1,7 @@
 use Rattle.std.proofs.Common.{List, ap, ◌++◌, ◌∙◌}
 use Rattle.std.proofs.lemmas.Result.{on_ok_weaker}
 use Rattle.cyp_names.proofs.Negations.{lit_of_base}
-use Rattle.cyp_text.specs.Uses.{Use}
+use Rattle.cyp_names.specs.Uses.{Use}
 use Rattle.cyp_names.proofs.uses.add_literal.Goals as goal
 
 pub returns : goal.returns

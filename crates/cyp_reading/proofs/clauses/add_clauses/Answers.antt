@@ -1,5 +1,5 @@
 use Rattle.cyp_reading.proofs.Appended.{map_turn}
-use Rattle.cyp_text.specs.Specifications.{read_clause}
+use Rattle.cyp_names.specs.Specifications.{read_clause}
 use Rattle.cyp_reading.proofs.clauses.add_clauses.Goals as goal
 
 pub loop-tree-preserved : goal.loop-tree-preserved

@@ -1,5 +1,5 @@
 use Rattle.std.proofs.Common.{◌++◌, ◌≡◌, drop, map}
-use Rattle.cyp_text.specs.Specifications.{read_clause}
+use Rattle.cyp_names.specs.Specifications.{read_clause}
 use Rattle.cyp_reading.proofs.clauses.add_clauses.Given as goal
 
 abbrev pub invariant-loop-tree : goal.invariant-loop-tree

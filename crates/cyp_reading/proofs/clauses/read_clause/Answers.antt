@@ -2,7 +2,7 @@ use Rattle.std.proofs.Common.{ap, subst, sym, ◌∙◌}
 use Rattle.cyp_reading.specs.InScope.{clause_in}
 use Rattle.cyp_reading.specs.ReadableTexts.{ClauseIn}
 use Rattle.cyp_reading.proofs.InScopes.{clause_said}
-use Rattle.cyp_text.specs.ReadTerms.{Scope}
+use Rattle.cyp_names.specs.ReadTerms.{Scope}
 use Rattle.cyp_reading.proofs.clauses.read_clause.Goals as goal
 
 pub clause_in-requires : goal.clause_in-requires

@@ -1,5 +1,5 @@
 use Rattle.cyp_reading.proofs.Appended.{map_turn}
-use Rattle.cyp_text.specs.Specifications.{read_pred}
+use Rattle.cyp_names.specs.Specifications.{read_pred}
 use Rattle.cyp_reading.proofs.clauses.read_preds.Goals as goal
 
 pub loop-pred-preserved : goal.loop-pred-preserved

@@ -1,5 +1,5 @@
 use Rattle.std.proofs.Common.{◌++◌, ◌≡◌, drop, map}
-use Rattle.cyp_text.specs.Specifications.{read_pred}
+use Rattle.cyp_names.specs.Specifications.{read_pred}
 use Rattle.cyp_reading.proofs.clauses.read_preds.Given as goal
 
 abbrev pub invariant-loop-pred : goal.invariant-loop-pred

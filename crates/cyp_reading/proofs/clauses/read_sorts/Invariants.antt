@@ -1,5 +1,5 @@
 use Rattle.std.proofs.Common.{◌≡◌, map, take}
-use Rattle.cyp_text.specs.Uses.{param_sort}
+use Rattle.cyp_names.specs.Uses.{param_sort}
 use Rattle.cyp_reading.proofs.clauses.read_sorts.Given as goal
 
 abbrev pub invariant-loop-param : goal.invariant-loop-param

@@ -1,9 +1,9 @@
 use Rattle.std.proofs.Common.{List, ap, drop, map, ◌∙◌, ◌≡◌}
 use Rattle.std.proofs.lemmas.List.{take_rest}
 use Rattle.cyp_reading.specs.Mended.{mended_body}
-use Rattle.cyp_text.specs.ReadTerms.{read_chunks, use_var}
-use Rattle.cyp_text.specs.Specifications.{with_cards}
-use Rattle.cyp_text.specs.Uses.{param_uses}
+use Rattle.cyp_names.specs.ReadTerms.{read_chunks, use_var}
+use Rattle.cyp_names.specs.Specifications.{with_cards}
+use Rattle.cyp_names.specs.Uses.{param_uses}
 use Rattle.cyp_text.specs.declared.tree.ParamTree.{ParamTree}
 use Rattle.cyp_text.specs.declared.tree.PredTree.{PredTree}
 use Rattle.cyp_reading.proofs.goals.goal_in.Goals as goal

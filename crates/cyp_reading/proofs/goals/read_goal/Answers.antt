@@ -2,8 +2,8 @@ use Rattle.std.proofs.Common.{ap, arith, length, subst, sym, ◌∙◌, ◌≡�
 use Rattle.cyp_reading.specs.InScope.{goal_in}
 use Rattle.cyp_reading.specs.ReadableTexts.{GoalIn}
 use Rattle.cyp_reading.proofs.InScopes.{first_within, goal_said}
-use Rattle.cyp_text.specs.ReadTerms.{Scope}
-use Rattle.cyp_text.specs.Specifications.{goal_scope, universal_scope}
+use Rattle.cyp_names.specs.ReadTerms.{Scope}
+use Rattle.cyp_names.specs.Specifications.{goal_scope, universal_scope}
 use Rattle.cyp_reading.proofs.goals.read_goal.Goals.{After-len}
 use Rattle.cyp_reading.proofs.goals.read_goal.Goals as goal
 

@@ -1,7 +1,7 @@
 use Rattle.std.proofs.Common.{ap, arith, length, ◌∙◌}
 use Rattle.cyp_heap.specs.Chunks.{in_order}
 use Rattle.cyp_reading.proofs.CardsGiven.{chunks_counted, order_given}
-use Rattle.cyp_text.specs.Specifications.{with_cards}
+use Rattle.cyp_names.specs.Specifications.{with_cards}
 use Rattle.cyp_reading.proofs.goals.read_pre.Goals as goal
 
 pub with_cards-requires : goal.with_cards-requires

@@ -1,5 +1,5 @@
 use Rattle.std.proofs.Common.{◌≡◌, map, take}
-use Rattle.cyp_text.specs.ReadTerms.{use_var}
+use Rattle.cyp_names.specs.ReadTerms.{use_var}
 use Rattle.cyp_reading.proofs.goals.vars_of.Given as goal
 
 abbrev pub invariant-loop-name : goal.invariant-loop-name

@@ -2,7 +2,7 @@ use Rattle.std.proofs.Common.{ap, arith, length, ◌∙◌, ◌∷◌, ◌++◌,
 use Rattle.std.specs.Vec.Iter.{into_iter_items}
 use Rattle.cyp_heap.specs.declared.chunk.Chunk.{Chunk}
 use Rattle.cyp_reading.proofs.CardsGiven.{cards_turn, next_most}
-use Rattle.cyp_text.specs.Specifications.{with_cards}
+use Rattle.cyp_names.specs.Specifications.{with_cards}
 use Rattle.cyp_reading.proofs.goals.with_cards.Goals as goal
 
 pub next_card-next-requires : goal.next_card-next-requires

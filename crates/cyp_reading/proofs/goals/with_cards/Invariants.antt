@@ -1,6 +1,6 @@
 use Rattle.std.proofs.Common.{◌+◌, ◌++◌, ◌≡◌, ◌≤◌, length}
 use Rattle.std.specs.Vec.Iter.{into_iter_items}
-use Rattle.cyp_text.specs.Specifications.{with_cards}
+use Rattle.cyp_names.specs.Specifications.{with_cards}
 use Rattle.cyp_reading.proofs.goals.with_cards.Given as goal
 
 abbrev pub invariant-loop-chunk : goal.invariant-loop-chunk

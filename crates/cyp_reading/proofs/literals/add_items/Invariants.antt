@@ -1,6 +1,6 @@
 use Rattle.std.proofs.Common.{◌++◌, ◌≡◌, drop, map}
 use Rattle.cyp_reading.specs.Items.{items_lits}
-use Rattle.cyp_text.specs.ReadTerms.{read_lit}
+use Rattle.cyp_names.specs.ReadTerms.{read_lit}
 use Rattle.cyp_reading.proofs.literals.add_items.Given as goal
 
 abbrev pub invariant-loop-item : goal.invariant-loop-item

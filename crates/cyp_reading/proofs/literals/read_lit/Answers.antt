@@ -3,7 +3,7 @@ use Rattle.cyp_reading.proofs.NotsRead.{even_read, odd_read}
 use Rattle.cyp_term.specs.Terms.{negated}
 use Rattle.cyp_term.specs.declared.lit.Lit.{Lit}
 use Rattle.cyp_text.specs.LitTrees.{lit_nots, plain_lit}
-use Rattle.cyp_text.specs.ReadTerms.{read_lit}
+use Rattle.cyp_names.specs.ReadTerms.{read_lit}
 use Rattle.cyp_text.specs.declared.lit_tree.BaseTree.{BaseTree}
 use Rattle.cyp_reading.proofs.literals.read_lit.Goals.{After-len}
 use Rattle.cyp_reading.proofs.literals.read_lit.Goals as goal

@@ -1,6 +1,6 @@
 use Rattle.std.proofs.Common.{◌≡◌, drop, flat_map}
 use Rattle.cyp_term.specs.Terms.{term_eq, with_all_new}
-use Rattle.cyp_text.specs.ReadTerms.{part_elems}
+use Rattle.cyp_names.specs.ReadTerms.{part_elems}
 use Rattle.cyp_reading.proofs.unions.add_elems.Given as goal
 
 abbrev pub invariant-loop-part : goal.invariant-loop-part

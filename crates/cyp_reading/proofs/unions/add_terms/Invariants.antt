@@ -1,6 +1,6 @@
 use Rattle.std.proofs.Common.{◌≡◌, drop, map}
 use Rattle.cyp_term.specs.Terms.{term_eq, with_all_new}
-use Rattle.cyp_text.specs.ReadTerms.{read_int}
+use Rattle.cyp_names.specs.ReadTerms.{read_int}
 use Rattle.cyp_reading.proofs.unions.add_terms.Given as goal
 
 abbrev pub invariant-loop-term : goal.invariant-loop-term

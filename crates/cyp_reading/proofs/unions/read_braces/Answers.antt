@@ -3,7 +3,7 @@ use Rattle.cyp_reading.proofs.UnionsRead.{two_added, union_sets}
 use Rattle.cyp_term.specs.SetTermValue.{AllSets}
 use Rattle.cyp_term.specs.Terms.{term_eq, var_eq, with_all_new}
 use Rattle.cyp_term.specs.declared.term.Var.{Var}
-use Rattle.cyp_text.specs.ReadTerms.{part_elems, part_vars, read_int, read_union}
+use Rattle.cyp_names.specs.ReadTerms.{part_elems, part_vars, read_int, read_union}
 use Rattle.cyp_text.specs.declared.tree.PartTree.TheVariants.{Braces}
 use Rattle.cyp_reading.proofs.unions.read_braces.Goals.{After-from_vec-2}
 use Rattle.cyp_reading.proofs.unions.read_braces.Goals as goal

@@ -5,7 +5,7 @@ use Rattle.cyp_reading.proofs.UnionsRead.{three_added, two_added, union_sets}
 use Rattle.cyp_term.specs.SetTermValue.{AllSets}
 use Rattle.cyp_term.specs.Terms.{term_eq, var_eq}
 use Rattle.cyp_term.specs.declared.term.Var.{Var}
-use Rattle.cyp_text.specs.ReadTerms.{part_elems, part_vars, read_union, var_named}
+use Rattle.cyp_names.specs.ReadTerms.{part_elems, part_vars, read_union, var_named}
 use Rattle.cyp_text.specs.declared.tree.PartTree.TheVariants.{PartName}
 use Rattle.cyp_reading.proofs.unions.read_named.Goals.{After-from_vec-2}
 use Rattle.cyp_reading.proofs.unions.read_named.Goals as goal

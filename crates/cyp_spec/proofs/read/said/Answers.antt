@@ -1,10 +1,10 @@
 use Rattle.std.proofs.Common.{length, map}
 use Rattle.cyp_lex.specs.Lexemes.{lexeme_of}
-use Rattle.cyp_limits.proofs.PlacesInOrder.{tree_in_order}
-use Rattle.cyp_reading.proofs.SmallMarks.{text_small}
+use Rattle.cyp_spec.proofs.PlacesInOrder.{tree_in_order}
+use Rattle.cyp_spec.proofs.SmallMarks.{text_small}
 use Rattle.cyp_spec.proofs.Judged.{tree_said}
 use Rattle.cyp_spec.proofs.read.said.Goals as goal
-use Rattle.cyp_text.proofs.PrintedRead.{marks_of_tokens}
+use Rattle.cyp_spec.proofs.TokenMarks.{marks_of_tokens}
 
 pub judged-requires-clause-small : goal.judged-requires-clause-small
 judged-requires-clause-small c = text_small c.in_ok-tree.tree (marks_of_tokens c.args.text.now c.args.tokens c.in_ok-tree.tree c.requires.exact c.in_ok-tree.ensures)

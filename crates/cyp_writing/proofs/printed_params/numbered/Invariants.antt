@@ -1,6 +1,6 @@
 use Rattle.std.proofs.Common.{[], map, take, ◌≡◌}
 use Rattle.cyp_writing.specs.PrintParts.{param_of}
-use Rattle.cyp_text.specs.PrintedTrees.{params_from}
+use Rattle.cyp_writing.specs.PrintedTrees.{params_from}
 use Rattle.cyp_writing.proofs.printed_params.numbered.Given as goal
 
 abbrev pub invariant-loop-i : goal.invariant-loop-i

@@ -1,5 +1,5 @@
 use Rattle.std.proofs.Common.{◌+◌, ◌≡◌, ◌≤◌, drop}
-use Rattle.cyp_text.specs.ReadTerms.{rank_of}
+use Rattle.cyp_names.specs.ReadTerms.{rank_of}
 use Rattle.cyp_names.proofs.scope.Scope.rank.Given as goal
 
 abbrev pub invariant-loop-other : goal.invariant-loop-other

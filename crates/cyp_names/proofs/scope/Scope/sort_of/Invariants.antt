@@ -1,5 +1,5 @@
 use Rattle.std.proofs.Common.{◌≡◌, drop}
-use Rattle.cyp_text.specs.ReadTerms.{sort_in}
+use Rattle.cyp_names.specs.ReadTerms.{sort_in}
 use Rattle.cyp_names.proofs.scope.Scope.sort_of.Given as goal
 
 abbrev pub invariant-loop-other : goal.invariant-loop-other

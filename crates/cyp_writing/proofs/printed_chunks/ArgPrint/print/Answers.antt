@@ -2,7 +2,7 @@ use Rattle.std.proofs.Common.{ap, sym, ◌∙◌}
 use Rattle.std.proofs.lemmas.Result.{on_ok_weaker}
 use Rattle.cyp_writing.specs.PrintMarks.{with_marks}
 use Rattle.cyp_writing.proofs.PrintTerms.{union_argument}
-use Rattle.cyp_text.specs.PrintedTrees.{parts_of}
+use Rattle.cyp_writing.specs.PrintedTrees.{parts_of}
 use Rattle.cyp_writing.proofs.printed_chunks.ArgPrint.print.Goals as goal
 
 pub returns-in-Set : goal.returns-in-Set

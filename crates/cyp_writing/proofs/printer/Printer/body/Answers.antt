@@ -4,7 +4,7 @@ use Rattle.cyp_lex.specs.Spelling.{sign}
 use Rattle.cyp_lex.specs.declared.token.Sign.TheVariants.{LeftBrace, RightBrace}
 use Rattle.cyp_writing.proofs.PrintSteps.{both, enclosed}
 use Rattle.cyp_text.specs.Grammar.{heap_spelling, pure_spelling}
-use Rattle.cyp_text.specs.PrintedTrees.{chunk_tree, pure_tree}
+use Rattle.cyp_writing.specs.PrintedTrees.{chunk_tree, pure_tree}
 use Rattle.cyp_writing.proofs.printer.Printer.body.Goals as goal
 
 pub returns : goal.returns

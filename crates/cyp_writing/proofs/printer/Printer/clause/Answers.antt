@@ -6,7 +6,7 @@ use Rattle.cyp_writing.specs.PrintMarks.{with_marks}
 use Rattle.cyp_writing.specs.PrintParts.{lit_marks}
 use Rattle.cyp_writing.proofs.PrintSteps.{both}
 use Rattle.cyp_text.specs.Grammar.{in_braces}
-use Rattle.cyp_text.specs.PrintedTrees.{body_tree}
+use Rattle.cyp_writing.specs.PrintedTrees.{body_tree}
 use Rattle.cyp_writing.proofs.printer.Printer.clause.Goals as goal
 
 pub returns : goal.returns

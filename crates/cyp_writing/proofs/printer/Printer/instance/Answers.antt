@@ -8,7 +8,7 @@ use Rattle.cyp_writing.specs.PrintParts.{arg_marks}
 use Rattle.cyp_writing.proofs.PrintSteps.{enclosed}
 use Rattle.cyp_writing.proofs.PrintUnits.{instance_of}
 use Rattle.cyp_text.specs.Grammar.{arg_spelling}
-use Rattle.cyp_text.specs.PrintedTrees.{arg_tree}
+use Rattle.cyp_writing.specs.PrintedTrees.{arg_tree}
 use Rattle.cyp_writing.proofs.printer.Printer.instance.Goals as goal
 
 pub returns : goal.returns

@@ -3,7 +3,7 @@ use Rattle.std.proofs.lemmas.Result.{on_ok_weaker}
 use Rattle.cyp_writing.specs.PrintMarks.{with_marks}
 use Rattle.cyp_writing.proofs.PrintTerms.{some_elems}
 use Rattle.cyp_text.specs.Grammar.{braces_spelling}
-use Rattle.cyp_text.specs.PrintedTrees.{term_tree}
+use Rattle.cyp_writing.specs.PrintedTrees.{term_tree}
 use Rattle.cyp_writing.proofs.printer.Printer.more_elems.Goals as goal
 
 pub returns : goal.returns

@@ -5,7 +5,7 @@ use Rattle.cyp_lex.specs.declared.token.Word.TheVariants.{In}
 use Rattle.cyp_writing.specs.PrintParts.{set_marks}
 use Rattle.cyp_writing.proofs.PrintUnits.{negated}
 use Rattle.cyp_text.specs.Grammar.{int_spelling}
-use Rattle.cyp_text.specs.PrintedTrees.{term_tree}
+use Rattle.cyp_writing.specs.PrintedTrees.{term_tree}
 use Rattle.cyp_writing.proofs.printer.Printer.not_member.Goals as goal
 
 pub returns : goal.returns

@@ -10,7 +10,7 @@ use Rattle.cyp_writing.proofs.PrintLines.{line_written}
 use Rattle.cyp_writing.proofs.PrintLists.{all_map}
 use Rattle.cyp_writing.proofs.PrintSteps.{both, enclosed, headed}
 use Rattle.cyp_text.specs.Grammar.{clause_spelling, params_spelling}
-use Rattle.cyp_text.specs.PrintedTrees.{clause_tree, ident_of, param_tree, params_from}
+use Rattle.cyp_writing.specs.PrintedTrees.{clause_tree, ident_of, param_tree, params_from}
 use Rattle.cyp_writing.proofs.printer.Printer.pred_line.Goals as goal
 
 pub returns : goal.returns

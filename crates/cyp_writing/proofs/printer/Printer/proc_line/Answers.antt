@@ -6,7 +6,7 @@ use Rattle.cyp_writing.specs.PrintMarks.{with_marks}
 use Rattle.cyp_writing.proofs.PrintLines.{line_written}
 use Rattle.cyp_writing.proofs.PrintSteps.{both, headed}
 use Rattle.cyp_text.specs.Grammar.{in_braces, params_spelling}
-use Rattle.cyp_text.specs.PrintedTrees.{body_tree, ident_of, param_tree}
+use Rattle.cyp_writing.specs.PrintedTrees.{body_tree, ident_of, param_tree}
 use Rattle.cyp_writing.proofs.printer.Printer.proc_line.Goals as goal
 
 pub returns : goal.returns

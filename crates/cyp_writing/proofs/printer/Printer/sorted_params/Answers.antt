@@ -5,7 +5,7 @@ use Rattle.cyp_lex.specs.Spelling.{separated, sign}
 use Rattle.cyp_lex.specs.declared.token.Sign.TheVariants.{Comma, LeftParen, RightParen}
 use Rattle.cyp_writing.specs.PrintMarks.{with_marks}
 use Rattle.cyp_writing.specs.PrintParts.{numbered_marks, param_of}
-use Rattle.cyp_text.specs.PrintedTrees.{params_from}
+use Rattle.cyp_writing.specs.PrintedTrees.{params_from}
 use Rattle.cyp_writing.proofs.PrintSteps.{enclosed}
 use Rattle.cyp_writing.proofs.PrintUnits.{numbered_of}
 use Rattle.cyp_writing.proofs.printer.Printer.sorted_params.Goals as goal

@@ -1,0 +1,3 @@
+pub mod FormedLaws
+pub mod LimitFaults
+pub mod Reading

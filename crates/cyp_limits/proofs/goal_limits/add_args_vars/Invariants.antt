@@ -1,6 +1,0 @@
-use Rattle.std.proofs.Common.{◌++◌, ◌≡◌, drop, flat_map}
-use Rattle.cyp_heap.specs.Chunks.{arg_vars}
-use Rattle.cyp_limits.proofs.goal_limits.add_args_vars.Given as goal
-
-abbrev pub invariant-loop-arg : goal.invariant-loop-arg
-invariant-loop-arg l = l.vars.items ++ flat_map arg_vars (drop l.arg-index l.args) ≡ l.initial.vars.items ++ flat_map arg_vars l.args

@@ -1,5 +1,0 @@
-use Rattle.cyp_text.proofs.ReadTrees.{read_is_regular, read_is_sorted}
-use Rattle.cyp_text.proofs.laws.goal_that_is_read_is_sorted.Goals as goal
-
-pub returns : goal.returns
-returns g = record { sorted = read_is_sorted; regular = read_is_regular }
