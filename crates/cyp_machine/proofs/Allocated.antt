@@ -74,7 +74,7 @@ module _ (k : ℕ) where
   frames_few (f ∷ fs) w = body_few f.rest (and_parts (allocates_within k f.rest) _ w).0
 
   next_within : (ps : List Procedure) → AllocatesWithin k ps → (fs : List Frame) (h : Store) (t : State) → FramesStep any_pick ps h fs t → FramesWithin k fs → FramesWithin k t.frames
-  next_within ps w = step_kept (allocates_within k) (statement_within k) refl (λ s b. refl) (λ c a b. refl) ps w
+  next_within ps w = step_kept (allocates_within k) (statement_within k) refl (λ s b. refl) (λ c a b h. and_parts (allocates_within k a) (allocates_within k b) h) ps w
 
   one_step_more : (n : ℕ) → suc n * k ≡ n * k + k
   one_step_more n = omega arith
@@ -89,10 +89,10 @@ module _ (k : ℕ) where
 
 pub allocated_within : AllocatedLaw
 allocated_within k ps n s t w f run =
-    (few k ps w n s t f run, run_kept (allocates_within k) (statement_within k) refl (λ s b. refl) (λ c a b. refl) ps w n s t run f)
+    (few k ps w n s t f run, run_kept (allocates_within k) (statement_within k) refl (λ s b. refl) (λ c a b h. and_parts (allocates_within k a) (allocates_within k b) h) ps w n s t run f)
 
 pub start_within : StartLaw
-start_within k ps p args h w = start_kept (allocates_within k) (statement_within k) refl (λ s b. refl) (λ c a b. refl) ps w p args h
+start_within k ps p args h w = start_kept (allocates_within k) (statement_within k) refl (λ s b. refl) (λ c a b h. and_parts (allocates_within k a) (allocates_within k b) h) ps w p args h
 
 pub heap_within : HeapLaw
 heap_within k ps p args h n t w run =

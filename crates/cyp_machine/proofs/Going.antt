@@ -52,8 +52,8 @@ module _ (ps : List Procedure) where
 
   run_closed : IsClosed ps → (p : ℕ) (args : List ℤ) (h : Store) (n : ℕ) (s : State) → Run ps n (start ps p args h) s → are_closed s.frames ≡ true
   run_closed closed p args h n s run =
-      run_kept (calls_below (length ps)) (statement_calls_below (length ps)) refl (λ s b. refl) (λ c a b. refl) ps closed n (start ps p args h) s run
-      (start_kept (calls_below (length ps)) (statement_calls_below (length ps)) refl (λ s b. refl) (λ c a b. refl) ps closed p args h)
+      run_kept (calls_below (length ps)) (statement_calls_below (length ps)) refl (λ s b. refl) (λ c a b h. and_parts (calls_below (length ps) a) (calls_below (length ps) b) h) ps closed n (start ps p args h) s run
+      (start_kept (calls_below (length ps)) (statement_calls_below (length ps)) refl (λ s b. refl) (λ c a b h. and_parts (calls_below (length ps) a) (calls_below (length ps) b) h) ps closed p args h)
 
 -- ---- such bodies go on
 

@@ -14,7 +14,7 @@ use Rattle.cyp_prog.specs.declared.stmt.Test.{Test}
 -- the test of a body is that of its statements, and that of a conditional the one of its blocks
 module _ (body : Body → Bool) (one : Statement → Bool)
     (at_end : body End ≡ true) (at_then : (s : Statement) (b : Body) → body (Then s b) ≡ (one s && body b))
-    (at_choice : (c : Test) (a b : Body) → one (Choosing c a b) ≡ (body a && body b)) where
+    (at_choice : (c : Test) (a b : Body) → one (Choosing c a b) ≡ true → (body a ≡ true) × (body b ≡ true)) where
   pub then_parts : (s : Statement) (b : Body) → body (Then s b) ≡ true → (one s ≡ true) × (body b ≡ true)
   then_parts s b p = and_parts (one s) (body b) (sym (at_then s b) ∙ p)
 
@@ -57,7 +57,7 @@ module _ (body : Body → Bool) (one : Statement → Bool)
         (kept-called ps p st.0 all st.1) (and_from (body rest) (frames_kept below) r b)
     statement_kept (Choosing q x y) h vs rest below t st c r b =
         became t h vs (followed_by (cond (test_value vs q) x y) rest) below st
-        (kept-followed (cond (test_value vs q) x y) rest (kept-chosen (test_value vs q) x y (and_parts (body x) (body y) (sym (at_choice q x y) ∙ c))) r) b
+        (kept-followed (cond (test_value vs q) x y) rest (kept-chosen (test_value vs q) x y (at_choice q x y c)) r) b
     statement_kept Failing h vs rest below t st c r b = absurd st
 
     body_kept : (x : Body) (h : Store) (vs : Values) (below : List Frame) (t : State) → BodyStep any_pick ps h vs x below t

@@ -1,4 +1,6 @@
 pub mod Allocated
+pub mod Bounded
+pub mod Called
 pub mod Calls
 pub mod CellUnions
 pub mod ClosedPrograms
@@ -20,6 +22,13 @@ pub mod Kept
 pub mod Least
 pub mod LeastRuns
 pub mod LineLaws
+pub mod LowBases
+pub mod Maps
 pub mod Options
 pub mod PartsExamples
+pub mod Rests
 pub mod RunInputReaders
+pub mod RunSteps
+pub mod StepParts
+pub mod UnderWay
+pub mod Undone
