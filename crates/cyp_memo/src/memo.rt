@@ -1,4 +1,4 @@
-ghost use Rattle.std.specs.Prelude.{◌≡◌, [], ◌^◌, ◌-◌, min, true, None, Some, OnOk, OnErr};
+ghost use Rattle.std.specs.Prelude.{◌≡◌, [], ◌∷◌, ◌++◌, ◌^◌, ◌-◌, min, true, false, None, Some, OnOk, OnErr};
 ghost use Rattle.std.specs.Option.{option_copied};
 ghost use Rattle.std.specs.Map.{set_value};
 ghost use Rattle.cyp_memo.specs.Places.{has_place, moves_at, with_place, held_in};
@@ -33,6 +33,33 @@ impl<R, N: Hash + Exact> Model for Memo<R, N> {
     ghost invariant = { λ m. m.held ≡ min (held_in m.places.entries) (2 ^ 64 - 1) };
 }
 
+/// Makes a place without moves behind the others, for a node that has none.
+fn add_place<R: Drop, N: Hash + Exact + Drop>(
+    places: &mut IndexMap<Shared<N>, Option<Moves<R, N>>>,
+    node: Shared<N>,
+) -> Result<(), NoMemory>
+    requires { has_place N.eq places.old.entries node ≡ false }
+    ensures placed { OnOk result (places.new.entries ≡ places.old.entries ++ (node, None) ∷ []) }
+    ensures same { OnErr result (places.new.entries ≡ places.old.entries) }
+{
+    places.insert(node, None)?;
+    Ok(())
+}
+
+/// Gives the place of a node these moves.
+fn set_moves<R: Drop, N: Hash + Exact + Drop>(
+    places: &mut IndexMap<Shared<N>, Option<Moves<R, N>>>,
+    node: &Shared<N>,
+    moves: Moves<R, N>,
+)
+    requires { has_place N.eq places.old.entries node.now ≡ true }
+    ensures { places.new.entries ≡ set_value (N.eq node.now) places.old.entries (Some moves) }
+{
+    if let Some(place) = places.get_mut(node) {
+        *place = Some(moves);
+    }
+}
+
 impl<R: Drop, N: Hash + Exact + Drop> Memo<R, N> {
     /// No node has a place.
     pub fn new(alloc: Global) -> Memo<R, N>
@@ -60,7 +87,7 @@ impl<R: Drop, N: Hash + Exact + Drop> Memo<R, N> {
         ensures same { OnErr result (self.new ≡ self.old) }
     {
         if !self.places.contains_key(&node) {
-            self.places.insert(node, None)?;
+            add_place(&mut self.places, node)?;
         }
         Ok(())
     }
@@ -72,9 +99,7 @@ impl<R: Drop, N: Hash + Exact + Drop> Memo<R, N> {
         ensures { self.new ≡ set_value (N.eq node.now) self.old (Some moves) }
     {
         let premises = u64::from(count_of_premises(moves.alts()));
-        if let Some(place) = self.places.get_mut(node) {
-            *place = Some(moves);
-        }
+        set_moves(&mut self.places, node, moves);
         self.held = self.held.saturating_add(premises);
     }
 

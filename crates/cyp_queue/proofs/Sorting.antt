@@ -1,14 +1,13 @@
 -- Entries in order: the same whatever order they were put in, and the greatest of a heap comes first.
-use Rattle.std.proofs.Common.{◌≡◌, refl, sym, ◌∙◌, ap, subst, ℕ, suc, ◌+◌, ◌≤◌, ◌<◌, ◌==◌, Bool, true, false, cond, ◌||◌, ◌&&◌, inl, inr, List, [], ◌∷◌, map, length, arith}
-use Rattle.std.specs.Prelude.{nat_lt}
-use Rattle.std.specs.List.{sum_by, AllByRecursion}
+use Rattle.std.proofs.Common.{◌≡◌, refl, sym, ◌∙◌, ap, subst, ℕ, ◌+◌, ◌≤◌, ◌<◌, ◌==◌, Bool, true, false, cond, ◌||◌, ◌&&◌, List, [], ◌∷◌, map, length, arith}
+use Rattle.std.specs.Prelude.{nat_lt, slice_index_or, Some, Result, Ok, Err, IsOk, OnOk}
+use Rattle.std.specs.List.{slice_get}
+use Rattle.std.specs.List.{sum_by}
 use Rattle.std.specs.List.Sorted.{IsPermutation}
 use Rattle.std.specs.BinaryHeap.{IsUpperBound}
-use Rattle.std.specs.Ordering.{nat_cmp, ordering_then, is_lt}
-use Rattle.std.specs.declared.cmp.Ordering.{Ordering}
+use Rattle.std.specs.Ordering.{ordering_then, is_lt}
 use Rattle.std.specs.declared.cmp.Ordering.TheVariants.{Less, Equal, Greater}
 use Rattle.std.specs.declared.cmp.Reverse.{Reverse}
-use Rattle.std.proofs.lemmas.Bool.{cases_Bool}
 use Rattle.std.proofs.lemmas.Bool.Decides.{nat_tests}
 use Rattle.std.proofs.lemmas.List.Sorted.{sum_by-IsPermutation, IsPermutation-map}
 use Rattle.std.proofs.lemmas.List.Sums.{sum_by-cons}
@@ -71,7 +70,7 @@ times-in_order e (x ∷ xs) = omega (arith, times-put e x (in_order xs), times-i
 
 none_before_put_by : (a x y : Entry) (ys : List Entry) (b : Bool) → is_before x a ≡ false → is_before y a ≡ false → NoneBefore a ys → NoneBefore a (put_entry x ys) → NoneBefore a (cond b (y ∷ put_entry x ys) (x ∷ y ∷ ys))
 none_before_put_by a x y ys true e f h k = (f, k)
-none_before_put_by a x y ys false e f h k = (e, f, h)
+none_before_put_by a x y ys false e f h k = (e, (f, h))
 
 none_before_put : (a x : Entry) (xs : List Entry) → is_before x a ≡ false → NoneBefore a xs → NoneBefore a (put_entry x xs)
 none_before_put a x [] e h = (e, tt)
@@ -83,7 +82,7 @@ none_before_after a x (y ∷ ys) e (f, h) = (never_before x a y e f, none_before
 
 put_in_order_by : (x y : Entry) (ys : List Entry) (b : Bool) → is_before y x ≡ b → NoneBefore y ys → AreInOrder ys → AreInOrder (put_entry x ys) → AreInOrder (cond b (y ∷ put_entry x ys) (x ∷ y ∷ ys))
 put_in_order_by x y ys true e h k m = (none_before_put y x ys (before_not y x e) h, m)
-put_in_order_by x y ys false e h k m = ((e, none_before_after y x ys e h), h, k)
+put_in_order_by x y ys false e h k m = ((e, none_before_after y x ys e h), (h, k))
 
 put_in_order : (x : Entry) (xs : List Entry) → AreInOrder xs → AreInOrder (put_entry x xs)
 put_in_order x [] h = (tt, tt)
@@ -158,3 +157,20 @@ put_first a (x ∷ xs) (e, h) = ap (λ (b : Bool). cond b (x ∷ put_entry a xs)
 -- what no other is greater than comes first
 pub greatest_first : (x : Reverse Entry) (rest : List (Reverse Entry)) → IsUpperBound heap_order x rest → entries_of (x ∷ rest) ≡ x.0 ∷ entries_of rest
 greatest_first x rest h = put_first x.0 (entries_of rest) (none_before_sorted x.0 (map (λ y. y.0) rest) (none_before_bound x rest h))
+
+-- ---- what a heap shows and takes
+
+-- the first of the heap is the first of its entries
+pub peeked : (items : List (Reverse Entry)) (x : Reverse Entry) → 0 < length items → x ≡ slice_index_or items 0 x → IsUpperBound heap_order x items → Some x.0 ≡ slice_get (entries_of items) 0
+peeked [] x h e b = absurd (omega arith)
+peeked (y ∷ rest) x h e b =
+    let rest_bound : IsUpperBound heap_order y rest = subst (λ (z : Reverse Entry). IsUpperBound heap_order z rest) e b.1 in
+    ap (λ (z : Reverse Entry). Some z.0) e ∙ sym (ap (λ (es : List Entry). slice_get es 0) (greatest_first y rest rest_bound))
+
+-- the entries of a heap are the one that was taken, and the others
+pub popped : (items rest : List (Reverse Entry)) (x : Reverse Entry) → IsPermutation items (x ∷ rest) → IsUpperBound heap_order x rest → entries_of items ≡ x.0 ∷ entries_of rest
+popped items rest x p b = entries-permutation items (x ∷ rest) p ∙ greatest_first x rest b
+
+pub ok_gives : {T E P : Type 0} (r : Result T E) → IsOk r → OnOk r P → P
+ok_gives (Ok x) e h = h
+ok_gives (Err x) e h = let bad : false ≡ true = e in cc
