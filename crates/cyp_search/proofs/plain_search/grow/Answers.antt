@@ -17,7 +17,7 @@ look-requires g c = omega (arith, size-map own_node (tree_of c.args.tree.now), c
 pub returns-in_default : goal.returns-in_default
 returns-in_default g c =
     let space : Moving g.row.S-Rule.Denot g.row.S-Node.Denot = record { moves = g.S.Space.moves_of c.args.space.now; weight = g.S.Space.weight_of c.args.space.now } in
-    (refl, λ q. absurd (not_open (status (tree_of c.args.tree.now)) (live_leaves own_weight 0 (tree_of c.args.tree.now)) c.look.result c.look.ensures c.in_default.not-Undecided (sym (plain_status space c.args.tree.now c.args.nodes c.requires.kept) ∙ q)))
+    (refl, λ q. absurd (not_open (status (tree_of c.args.tree.now)) (live_leaves own_weight 0 (tree_of c.args.tree.now)) c.look.result c.look.ensures c.in_default.not-Open (sym (plain_status space c.args.tree.now c.args.nodes c.requires.kept) ∙ q)))
 
 pub returns-then-grown-limit : goal.returns-then-grown-limit
 returns-then-grown-limit g c =
