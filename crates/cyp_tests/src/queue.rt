@@ -35,10 +35,34 @@ fn entries_come_by_priority_and_leaf(rt: HostRuntime) -> Result<(), Failed> {
     queue.push(3, 0)?;
     let root = tree(alloc, false)?;
     let grown = tree(alloc, true)?;
-    assert_eq!(rt; queue.peek(), Some(Entry { priority: 3, leaf: 0 }));
-    assert_eq!(rt; queue.pop_alive(&root), Some(Entry { priority: 3, leaf: 0 }));
-    assert_eq!(rt; queue.pop_alive(&grown), Some(Entry { priority: 3, leaf: 2 }));
-    assert_eq!(rt; queue.pop_alive(&grown), Some(Entry { priority: 5, leaf: 1 }));
+    assert_eq!(rt;
+        queue.peek(),
+        Some(Entry {
+            priority: 3,
+            leaf: 0
+        })
+    );
+    assert_eq!(rt;
+        queue.pop_alive(&root),
+        Some(Entry {
+            priority: 3,
+            leaf: 0
+        })
+    );
+    assert_eq!(rt;
+        queue.pop_alive(&grown),
+        Some(Entry {
+            priority: 3,
+            leaf: 2
+        })
+    );
+    assert_eq!(rt;
+        queue.pop_alive(&grown),
+        Some(Entry {
+            priority: 5,
+            leaf: 1
+        })
+    );
     assert!(rt; queue.pop_alive(&grown).is_none());
     Ok(())
 }
@@ -54,10 +78,34 @@ fn entries_of_dead_leaves_are_dropped(rt: HostRuntime) -> Result<(), Failed> {
     queue.push(4, 9)?;
     let grown = tree(alloc, true)?;
     // 0 is grown, and no node has number 7: both are dropped
-    assert_eq!(rt; queue.pop_alive(&grown), Some(Entry { priority: 3, leaf: 1 }));
-    assert_eq!(rt; queue.peek(), Some(Entry { priority: 3, leaf: 2 }));
-    assert_eq!(rt; queue.pop_alive(&grown), Some(Entry { priority: 3, leaf: 2 }));
-    assert_eq!(rt; queue.peek(), Some(Entry { priority: 4, leaf: 9 }));
+    assert_eq!(rt;
+        queue.pop_alive(&grown),
+        Some(Entry {
+            priority: 3,
+            leaf: 1
+        })
+    );
+    assert_eq!(rt;
+        queue.peek(),
+        Some(Entry {
+            priority: 3,
+            leaf: 2
+        })
+    );
+    assert_eq!(rt;
+        queue.pop_alive(&grown),
+        Some(Entry {
+            priority: 3,
+            leaf: 2
+        })
+    );
+    assert_eq!(rt;
+        queue.peek(),
+        Some(Entry {
+            priority: 4,
+            leaf: 9
+        })
+    );
     assert!(rt; queue.pop_alive(&grown).is_none());
     assert!(rt; queue.peek().is_none());
     Ok(())
