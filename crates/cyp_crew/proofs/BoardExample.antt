@@ -10,7 +10,7 @@ use Rattle.cyp_crew.specs.declared.event.Event.{Event}
 use Rattle.cyp_crew.specs.declared.event.Event.TheVariants.{Claim}
 use Rattle.cyp_crew.specs.Crews.{Outstanding, Crew}
 use Rattle.cyp_crew.specs.Claims.{crew_leaves, is_free}
-use Rattle.cyp_crew.specs.Board.{Mark, Place, Entry, PlainBoard, entry_of, stage_marks, IsRight, StandsFor}
+use Rattle.cyp_crew.specs.Board.{MarkedNode, Place, Entry, PlainBoard, entry_of, stage_marks, IsRight, StandsFor}
 use Rattle.cyp_crew.proofs.Examples.{ways, space, task, one_commit}
 
 abbrev so_far : List Event
@@ -22,7 +22,7 @@ claim = record { worker = 0; serial = 2; leaf = 1; node = 1; cancelled = false }
 abbrev crew : Crew ℕ
 crew = record { commits = 1; published = 0 ∷ []; outstanding = claim ∷ []; claims = 2 }
 
-abbrev mark : ℕ → Mark ℕ
+abbrev mark : ℕ → MarkedNode ℕ
 mark k = record { number = k; node = k; priority = k; status = Undecided }
 
 abbrev entry : ℕ → Entry
@@ -50,10 +50,10 @@ board = record {
   journal_room = 1;
 }
 
-abbrev IsAt : Mark ℕ → Type 0
+abbrev IsAt : MarkedNode ℕ → Type 0
 IsAt m = slice_get board.nodes m.number ≡ Some m
 
-marked : (m : Mark ℕ) → Contains (stage_marks task so_far board) m → IsAt m
+marked : (m : MarkedNode ℕ) → Contains (stage_marks task so_far board) m → IsAt m
 marked m (zero, h, e) = subst IsAt e refl
 marked m (suc zero, h, e) = subst IsAt e refl
 marked m (suc (suc zero), h, e) = subst IsAt e refl

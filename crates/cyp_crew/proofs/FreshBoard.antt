@@ -4,7 +4,7 @@ use Rattle.std.specs.List.{Contains}
 use Rattle.cyp_tree.specs.Live.{Waiting}
 use Rattle.cyp_tree.proofs.Singles.{nothing_in, only_one}
 use Rattle.cyp_crew.specs.Crews.{Task, fresh_crew}
-use Rattle.cyp_crew.specs.Board.{Mark, Place, Entry, entry_of, IsRight, StandsFor, root_mark, fresh_board}
+use Rattle.cyp_crew.specs.Board.{MarkedNode, Place, Entry, entry_of, IsRight, StandsFor, root_mark, fresh_board}
 
 contains_one : {X : Type 0} (x : X) → Contains (x ∷ []) x
 contains_one x = (0, omega arith, refl)
@@ -22,7 +22,7 @@ module _ {R N : Type 0} (t : Task R N) where
   root_entry : (w : Waiting N) → Contains (the_leaf ∷ []) w → Contains (the_entry ∷ []) (entry_of w)
   root_entry w h = (0, omega arith, ap entry_of (only_one the_leaf w h))
 
-  root_marked : (m : Mark N) → Contains (root_mark t ∷ []) m → slice_get (root_mark t ∷ []) m.number ≡ Some m
+  root_marked : (m : MarkedNode N) → Contains (root_mark t ∷ []) m → slice_get (root_mark t ∷ []) m.number ≡ Some m
   root_marked m h = let same : root_mark t ≡ m = only_one (root_mark t) m h in (λ i. slice_get (root_mark t ∷ []) (sym same i).number) ∙ ap Some same
 
   no_place : (i : ℕ) (p : Place R N) → slice_get [] i ≡ Some p → ⊥

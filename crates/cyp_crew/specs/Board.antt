@@ -15,7 +15,7 @@ use Rattle.cyp_crew.specs.Claims.{crew_leaves, is_free}
 use Rattle.cyp_crew.specs.Journals.{commits_in, LeadsTo}
 
 -- a node of a tree with its number, its priority, which is the cost of its path and its weight, and its status
-pub record Mark (N : Type 0) : Type 0 where
+pub record MarkedNode (N : Type 0) : Type 0 where
   pub number : ℕ
   pub node : N
   pub priority : ℕ
@@ -23,15 +23,15 @@ pub record Mark (N : Type 0) : Type 0 where
 
 abbrev mutual
   -- the nodes of a tree, where the path to it has this cost
-  pub marks : {R N : Type 0} → (N → ℕ) → ℕ → Tree R N → List (Mark N)
+  pub marks : {R N : Type 0} → (N → ℕ) → ℕ → Tree R N → List (MarkedNode N)
   marks weight c (Leaf k n) = record { number = k; node = n; priority = c + weight n; status = Undecided } ∷ []
   marks weight c (Grown k n as') = record { number = k; node = n; priority = c + weight n; status = alts_status as' } ∷ alts_marks weight c as'
 
-  pub alts_marks : {R N : Type 0} → (N → ℕ) → ℕ → Alts R N → List (Mark N)
+  pub alts_marks : {R N : Type 0} → (N → ℕ) → ℕ → Alts R N → List (MarkedNode N)
   alts_marks weight c NoAlt = []
   alts_marks weight c (AltThen r d ps as') = parts_marks weight (c + d) ps ++ alts_marks weight c as'
 
-  pub parts_marks : {R N : Type 0} → (N → ℕ) → ℕ → Parts R N → List (Mark N)
+  pub parts_marks : {R N : Type 0} → (N → ℕ) → ℕ → Parts R N → List (MarkedNode N)
   parts_marks weight c NoPart = []
   parts_marks weight c (PartThen t ps) = marks weight c t ++ parts_marks weight c ps
 
@@ -51,7 +51,7 @@ pub record PlainBoard (R N : Type 0) : Type 0 where
   pub journal : List Event
   pub claims : List (Outstanding N)
   pub tree : Tree R N
-  pub nodes : List (Mark N)
+  pub nodes : List (MarkedNode N)
   pub memo : List (Place R N)
   pub to_commit : List Entry
   pub to_claim : List Entry
@@ -68,7 +68,7 @@ module _ {R N : Type 0} (t : Task R N) (vs : List Event) (b : PlainBoard R N) wh
   board_stage = stage t.space t.root (commits_in vs)
 
   -- the nodes of that stage
-  abbrev pub stage_marks : List (Mark N)
+  abbrev pub stage_marks : List (MarkedNode N)
   stage_marks = marks t.space.weight 0 board_stage
 
   -- the journal is the stored one, it is a journal that leads to this state, and the claims are the outstanding ones
@@ -81,7 +81,7 @@ module _ {R N : Type 0} (t : Task R N) (vs : List Event) (b : PlainBoard R N) wh
   pub record HasTree : Type 0 where
     pub tree : b.tree ≡ board_stage
     pub counted : length b.nodes ≡ size board_stage
-    pub marked : (m : Mark N) → Contains stage_marks m → slice_get b.nodes m.number ≡ Some m
+    pub marked : (m : MarkedNode N) → Contains stage_marks m → slice_get b.nodes m.number ≡ Some m
 
   -- each node has at most one place, and moves, which are those of the space, exactly where it is published
   pub record HasMemo (c : Crew N) : Type 0 where
@@ -91,7 +91,7 @@ module _ {R N : Type 0} (t : Task R N) (vs : List Event) (b : PlainBoard R N) wh
 
   -- the entry has the number and the priority of a node of the stage
   abbrev pub IsRight : Entry → Type 0
-  IsRight e = (m : Mark N) × Contains stage_marks m × (m.number ≡ e.leaf) × (m.priority ≡ e.priority)
+  IsRight e = (m : MarkedNode N) × Contains stage_marks m × (m.number ≡ e.leaf) × (m.priority ≡ e.priority)
 
   -- each live leaf is in the order of commits, each that is neither published nor claimed is in the order of claims, and all entries are right
   pub record HasOrders (c : Crew N) : Type 0 where
@@ -116,7 +116,7 @@ module _ {R N : Type 0} (t : Task R N) (vs : List Event) (b : PlainBoard R N) wh
     pub room : HasRoom state
 
 -- the root's node, as that of the first stage
-abbrev pub root_mark : {R N : Type 0} → Task R N → Mark N
+abbrev pub root_mark : {R N : Type 0} → Task R N → MarkedNode N
 root_mark t = record { number = 0; node = t.root; priority = 0 + t.space.weight t.root; status = Undecided }
 
 -- the board of a search that nothing was done of
