@@ -14,4 +14,3 @@ mod SolvedTrees
 mod Loop
 mod Whole
 mod Rows
-mod Example

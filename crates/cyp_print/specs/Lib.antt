@@ -1,4 +1,3 @@
-pub mod Examples
 pub mod Found
 pub mod Lines
 pub mod ShortNumbers

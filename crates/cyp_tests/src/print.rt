@@ -1,6 +1,6 @@
 ghost use Rattle.std.specs.Prelude.{◌≡◌, [], ◌∷◌, IfOk, None, pos};
 ghost use Rattle.cyp_heap.specs.Keeps.{KeepsNode};
-ghost use Rattle.cyp_print.specs.Examples.{before, cell_with, done, end_proof, error_proof, frame_proof, impossible, one_parameter, plain, shifted, store_proof, stored, unknown};
+ghost use Rattle.cyp_tests.specs.PrintedExamples.{before, cell_with, done, end_proof, error_proof, frame_proof, impossible, one_parameter, plain, shifted, store_proof, stored, unknown};
 ghost use Rattle.cyp_term.specs.TermValue.{IsTerm};
 ghost use Rattle.cyp_tree.specs.Derivations.{Derived, plain_derivation, plain_derivations};
 

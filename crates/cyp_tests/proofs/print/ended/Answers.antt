@@ -1,6 +1,6 @@
-use Rattle.cyp_print.proofs.Example.{without_part}
+use Rattle.cyp_tests.proofs.PrintedProofs.{without_part}
 use Rattle.cyp_step.specs.declared.rule.Rule.TheVariants.{ByEmp}
-use Rattle.cyp_print.specs.Examples.{done}
+use Rattle.cyp_tests.specs.PrintedExamples.{done}
 use Rattle.cyp_tests.proofs.print.ended.Goals as goal
 
 pub returns : goal.returns

@@ -1,6 +1,6 @@
-use Rattle.cyp_print.proofs.Example.{with_part}
+use Rattle.cyp_tests.proofs.PrintedProofs.{with_part}
 use Rattle.cyp_step.specs.declared.rule.Rule.TheVariants.{ByFrame}
-use Rattle.cyp_print.specs.Examples.{end_proof, stored}
+use Rattle.cyp_tests.specs.PrintedExamples.{end_proof, stored}
 use Rattle.cyp_tests.proofs.print.framed.Goals as goal
 
 pub returns : goal.returns

@@ -1,6 +1,6 @@
-use Rattle.cyp_print.proofs.Example.{without_part}
+use Rattle.cyp_tests.proofs.PrintedProofs.{without_part}
 use Rattle.cyp_step.specs.declared.rule.Rule.TheVariants.{ByInconsistent}
-use Rattle.cyp_print.specs.Examples.{impossible}
+use Rattle.cyp_tests.specs.PrintedExamples.{impossible}
 use Rattle.cyp_tests.proofs.print.refuted.Goals as goal
 
 pub returns : goal.returns

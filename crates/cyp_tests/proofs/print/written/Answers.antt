@@ -1,6 +1,6 @@
-use Rattle.cyp_print.proofs.Example.{with_part}
+use Rattle.cyp_tests.proofs.PrintedProofs.{with_part}
 use Rattle.cyp_step.specs.declared.rule.Rule.TheVariants.{ByWrite}
-use Rattle.cyp_print.specs.Examples.{before, frame_proof}
+use Rattle.cyp_tests.specs.PrintedExamples.{before, frame_proof}
 use Rattle.cyp_tests.proofs.print.written.Goals as goal
 
 pub returns : goal.returns

@@ -13,7 +13,7 @@ use Rattle.cyp_term.specs.Entailment.{arrangement_fits, arrangements, class_lite
 use Rattle.cyp_term.specs.Integers.{all_cases, both, eliminate, eliminate_all, feasible, ints_fit, joined}
 use Rattle.cyp_term.specs.Regions.{all_set_vars, all_terms, regions_fit}
 use Rattle.cyp_tree.specs.Derivations.{Derived, More, NoMore, plain_derivation, plain_derivations}
-use Rattle.cyp_print.specs.Examples.{before, done, error_proof, impossible, store_proof, stored}
+use Rattle.cyp_tests.specs.PrintedExamples.{before, done, error_proof, impossible, store_proof, stored}
 use Rattle.cyp_print.specs.Found.{IsFound}
 
 -- ---- the nodes
