@@ -19,8 +19,6 @@ mod lanes;
 #[cfg(test)]
 mod lex;
 #[cfg(test)]
-mod memo;
-#[cfg(test)]
 mod moves;
 #[cfg(test)]
 mod names;
@@ -28,8 +26,6 @@ mod names;
 mod print;
 #[cfg(test)]
 mod pure;
-#[cfg(test)]
-mod queue;
 #[cfg(test)]
 mod search;
 #[cfg(test)]
@@ -42,7 +38,5 @@ mod step;
 mod term;
 #[cfg(test)]
 mod text;
-#[cfg(test)]
-mod tree;
 #[cfg(test)]
 mod unify;
