@@ -49,5 +49,6 @@ AreNew t seats = (i : ℕ) (s : SeatValue) → slice_get seats i ≡ Some s → 
 abbrev pub words_code : Coded WordsValue
 words_code = code_by (TableId × ℕ) (coded× table_id_coded coded_ℕ) (λ w. (w.table, w.workers)) (λ p. record { table = p.0; workers = p.1 }) (λ _. refl)
 
+-- a seat coded as its table and its view
 abbrev pub seat_code : Coded SeatValue
 seat_code = code_by (TableId × WorkerView) (coded× table_id_coded worker_code) (λ s. (s.table, s.view)) (λ p. record { table = p.0; view = p.1 }) (λ _. refl)

@@ -10,9 +10,11 @@ use Rattle.cyp_prog.specs.declared.stmt.Test.{Test}
 abbrev pub offset_in_range : ℤ → Bool
 offset_in_range z = int_le (neg_ℤ (pos 4294967296)) z && int_le z (pos 4294967296)
 
+-- the offset of an expression is in range
 abbrev pub expr_in_range : Expr → Bool
 expr_in_range e = offset_in_range e.offset
 
+-- both sides of a test are in range
 abbrev pub test_in_range : Test → Bool
 test_in_range t = expr_in_range t.left && expr_in_range t.right
 
@@ -32,9 +34,11 @@ abbrev mutual
   statement_in_range n (Choosing t a b) = test_in_range t && (body_in_range n a && body_in_range n b)
   statement_in_range n Failing = true
 
+-- the body of each procedure is in range, with calls of these procedures
 abbrev pub program_in_range : List Procedure → Bool
 program_in_range ps = list_all (λ (q : Procedure). body_in_range (length ps) q.body) ps
 
+-- what is left of each running body is in range
 abbrev pub frames_in_range : ℕ → List Frame → Bool
 frames_in_range n fs = list_all (λ (f : Frame). body_in_range n f.rest) fs
 

@@ -22,11 +22,12 @@ pub record ArePaths {N R : Type 0} (ps : List (Place N)) (ws : List (Way R)) : T
       → (p.cost ≡ q.cost + y.cost) × (p.level ≡ suc q.level)
   pub small : (j : ℕ) (p : Place N) → slice_get ps j ≡ Some p → (p.level ≤ j) × (p.cost ≤ 255 * p.level)
 
--- how many places are grown
+-- 1 for a place that is grown, and 0 for a leaf
 abbrev pub one_grown : Option Run → ℕ
 one_grown None = 0
 one_grown (Some r) = 1
 
+-- how many of the places are grown
 abbrev pub grown_in : {N : Type 0} → List (Place N) → ℕ
 grown_in [] = 0
 grown_in (p ∷ ps) = one_grown p.ways + grown_in ps

@@ -34,14 +34,16 @@ with_ways p f c = record p { ways = Some (record { first = f; count = c }) }
 abbrev pub grown_places : {R N : Type 0} → ℕ → Place N → ℕ → List (AltOf R N) → List (Place N) → List (Place N)
 grown_places leaf p m as' ps = slice_set ps leaf (with_ways p m (length as')) ++ new_places m p.cost p.level as'
 
+-- the ways of the moves stand behind the others
 abbrev pub grown_ways : {R N : Type 0} → ℕ → ℕ → List (AltOf R N) → List (Way R) → List (Way R)
 grown_ways leaf k as' ws = ws ++ new_ways leaf k as'
 
--- the status of a node with these moves and only leaves below
+-- the status of a move with these premises, all leaves
 abbrev pub premises_status : {N : Type 0} → List N → Mark
 premises_status [] = Solved
 premises_status (n ∷ ns) = Undecided
 
+-- the status of a node whose alternatives are these moves, with only leaves below
 abbrev pub fresh_status : {R N : Type 0} → List (AltOf R N) → Mark
 fresh_status [] = Failed
 fresh_status (a ∷ as') = either (premises_status a.premises) (fresh_status as')

@@ -8,15 +8,19 @@ use Rattle.cyp_tree.specs.declared.places.Way.{Way}
 use Rattle.cyp_tree.specs.declared.marks.Marks.{Marks}
 use Rattle.cyp_tree.specs.Told.{way_sum, IsTold, IsToldBut, AreCounted}
 
+-- the status of the node of this number, and undecided where there is none
 abbrev pub status_at : Marks → ℕ → Mark
 status_at m k = slice_index_or m.statuses.items k Undecided
 
+-- whether the node of this number is under no decided node and no failed alternative
 abbrev pub reached_at : Marks → ℕ → Bool
 reached_at m k = slice_index_or m.reached.items k false
 
+-- how many alternatives of the node have not failed
 abbrev pub unfailed_at : Marks → ℕ → ℕ
 unfailed_at m k = slice_index_or m.unfailed.items k 0
 
+-- how many premises of the alternative are not solved
 abbrev pub unsolved_at : Marks → ℕ → ℕ
 unsolved_at m w = slice_index_or m.unsolved.items w 0
 
