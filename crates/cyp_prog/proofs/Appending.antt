@@ -1,5 +1,5 @@
 -- What is written, with what is still to be written behind it.
-use Rattle.std.proofs.Common.{◌≡◌, ◌∙◌, ◌++◌, ◌∷◌, [], List, sym, ap, append_assoc}
+use Rattle.std.proofs.Common.{◌≡◌, ◌∙◌, ◌++◌, List, sym, ap, append_assoc}
 
 -- a part of the rest goes over
 pub gone_over : {A : Type 0} (done more part rest later whole : List A) → more ≡ done ++ part → rest ≡ part ++ later → done ++ rest ≡ whole → more ++ later ≡ whole

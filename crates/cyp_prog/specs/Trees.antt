@@ -1,5 +1,5 @@
 -- The syntax of programs as trees. A place is that of a lexeme's first byte.
-use Rattle.std.specs.Prelude.{List, ◌∷◌, ℕ}
+use Rattle.std.specs.Prelude.{List, ◌∷◌}
 use Rattle.cyp_lex.specs.declared.ident.Ident.{Ident}
 use Rattle.cyp_prog.specs.declared.stmt.TestSign.{TestSign}
 pub use Rattle.cyp_prog.specs.declared.tree.ExprTree.{ExprTree}

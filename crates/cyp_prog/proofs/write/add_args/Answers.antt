@@ -1,4 +1,4 @@
-use Rattle.std.proofs.Common.{◌++◌, ◌+◌, ◌-◌, ◌≡◌, ◌∙◌, ◌∷◌, None, add-one, ap, append-nil, drop, get_or, pos, sym}
+use Rattle.std.proofs.Common.{◌++◌, ◌+◌, ◌≡◌, ◌∙◌, ◌∷◌, None, add-one, ap, append-nil, drop, get_or, pos, sym}
 use Rattle.std.proofs.Math.Seq.{drop-cons}
 use Rattle.std.proofs.lemmas.List.{drop_all}
 use Rattle.cyp_prog.specs.PrintedLists.{arg_text}

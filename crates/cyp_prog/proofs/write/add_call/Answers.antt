@@ -1,4 +1,4 @@
-use Rattle.std.proofs.Common.{[], ◌∷◌, ◌≡◌, ◌∙◌, ◌++◌, ap, map, sym}
+use Rattle.std.proofs.Common.{[], ◌∷◌, ◌∙◌, ◌++◌, ap, map, sym}
 use Rattle.std.specs.Prelude.{codes, slice_get}
 use Rattle.std.proofs.lemmas.Result.{on_ok_weaker}
 use Rattle.cyp_prog.specs.PrintedLists.{proc_name}

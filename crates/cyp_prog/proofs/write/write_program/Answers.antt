@@ -1,4 +1,4 @@
-use Rattle.std.proofs.Common.{◌≡◌, ◌∙◌, ◌+◌, ◌++◌, List, ap, append-nil, drop, map, sym}
+use Rattle.std.proofs.Common.{◌∙◌, ◌+◌, ◌++◌, List, ap, append-nil, drop, map, sym}
 use Rattle.std.proofs.lemmas.List.{drop_all}
 use Rattle.cyp_prog.specs.ProgramText.{Bytes, procedure_text, procedures_text}
 use Rattle.cyp_prog.specs.Programs.{plain_proc}
