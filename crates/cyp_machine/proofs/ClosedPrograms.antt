@@ -11,10 +11,16 @@ use Rattle.cyp_machine.specs.Closed.{IsClosed, calls_below, statement_calls_belo
 use Rattle.cyp_machine.specs.ClosedLaws.{EntryIsThere, InputIsClosed, SpelledIsClosed}
 use Rattle.cyp_machine.specs.RunInput.{InputTree, NumTree, RunInput, StartTree, input_faults, input_of, num_of, piece_faults, range_faults, start_faults}
 use Rattle.cyp_prog.specs.Bindings.{arity_faults, block_faults, bound_behind, call_faults, count_faults, expr_vars, name_faults, param_faults, proc_faults, program_faults, stmt_faults, use_faults}
-use Rattle.cyp_prog.specs.Faults.{ProgFault, ProgKind, WrongArity, earlier, least_fault, unless}
+use Rattle.cyp_prog.specs.Faults.{earlier, least_fault, unless}
 use Rattle.cyp_prog.specs.Programs.{Procedure}
 use Rattle.cyp_prog.specs.TreePrograms.{block_of, let_of, proc_named, proc_of, proc_place, program_of_tree, stmt_of}
-use Rattle.cyp_prog.specs.Trees.{BlockTree, CallStmt, ErrorStmt, FreeStmt, FromCell, FromMalloc, IfStmt, LetStmt, NoStmts, ProcTree, ProgramTree, SourceTree, StmtTree, Stmts, StoreStmt, VarTree, procs_of}
+use Rattle.cyp_prog.specs.Trees.{BlockTree, CallStmt, ErrorStmt, FreeStmt, IfStmt, LetStmt, NoStmts, ProcTree, ProgramTree, StmtTree, Stmts, StoreStmt, procs_of}
+use Rattle.cyp_prog.specs.declared.fault.ProgFault.{ProgFault}
+use Rattle.cyp_prog.specs.declared.fault.ProgKind.{ProgKind}
+use Rattle.cyp_prog.specs.declared.fault.ProgKind.TheVariants.{WrongArity}
+use Rattle.cyp_prog.specs.declared.tree.SourceTree.{SourceTree}
+use Rattle.cyp_prog.specs.declared.tree.SourceTree.TheVariants.{FromCell, FromMalloc}
+use Rattle.cyp_prog.specs.declared.tree.VarTree.{VarTree}
 
 -- ---- no faults
 

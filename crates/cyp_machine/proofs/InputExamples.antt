@@ -13,11 +13,11 @@ use Rattle.cyp_machine.specs.RunInput.{BlockPiece, CellPiece, InputTree, IsInput
 use Rattle.cyp_prog.proofs.Exact.{reads_exact}
 use Rattle.cyp_prog.proofs.ProgramLaws.{proc_reads}
 use Rattle.cyp_prog.proofs.Shallow.{few_braces}
-use Rattle.cyp_prog.specs.Faults.{Expected, NumberRange}
 use Rattle.cyp_prog.specs.Grammar.{proc_spelling, program_spelling}
 use Rattle.cyp_prog.specs.Lexemes.{program_lexemes}
 use Rattle.cyp_prog.specs.Programs.{End}
 use Rattle.cyp_prog.specs.Trees.{NoStmts, ProcTree}
+use Rattle.cyp_prog.specs.declared.fault.ProgKind.TheVariants.{Expected, NumberRange}
 
 found : Result (List Token) Fault → List Token
 found (Ok ts) = ts

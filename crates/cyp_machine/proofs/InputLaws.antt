@@ -22,7 +22,7 @@ use Rattle.cyp_prog.proofs.Decided.{Decision, Stopped, decided}
 use Rattle.cyp_prog.proofs.Exact.{end_avoids, reads_exact}
 use Rattle.cyp_prog.proofs.ProgramLaws.{program_reads}
 use Rattle.cyp_prog.specs.Grammar.{program_spelling}
-use Rattle.cyp_prog.proofs.StmtReaders.{program_at}
+use Rattle.cyp_prog.specs.StmtReaders.{program_at}
 use Rattle.cyp_prog.specs.Trees.{ProgramTree}
 
 input_is : (x y : InputTree) → x.program ≡ y.program → x.start ≡ y.start → x ≡ y

@@ -28,6 +28,7 @@ pub mod Options
 pub mod PartsExamples
 pub mod Rests
 pub mod RunInputReaders
+pub mod RulesInRange
 pub mod RunSteps
 pub mod StepParts
 pub mod UnderWay

@@ -14,12 +14,14 @@ use Rattle.cyp_heap.specs.Stores.{Store}
 use Rattle.cyp_lex.specs.declared.token.Sign.TheVariants.{Comma, LeftBrace, LeftBracket, LeftParen, Minus, PointsTo, RightBrace, RightBracket, RightParen, TwoStars}
 use Rattle.cyp_lex.specs.declared.token.Word.TheVariants.{Emp}
 use Rattle.cyp_prog.specs.Bindings.{call_faults, program_faults, size_faults}
-use Rattle.cyp_prog.specs.Faults.{DuplicateName, NumberRange, ProgFault, unless}
+use Rattle.cyp_prog.specs.Faults.{unless}
 use Rattle.cyp_prog.specs.Grammar.{program_spelling}
 use Rattle.cyp_prog.specs.Passes.{IsReading, Syntax}
 use Rattle.cyp_prog.specs.Programs.{Procedure}
 use Rattle.cyp_prog.specs.TreePrograms.{proc_place, program_of_tree}
 use Rattle.cyp_prog.specs.Trees.{ProcTree, ProgramTree, procs_of}
+use Rattle.cyp_prog.specs.declared.fault.ProgFault.{ProgFault}
+use Rattle.cyp_prog.specs.declared.fault.ProgKind.TheVariants.{DuplicateName, NumberRange}
 
 -- ---- trees
 

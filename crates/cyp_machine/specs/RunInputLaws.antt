@@ -3,7 +3,7 @@ use Rattle.std.specs.Prelude.{◌≡◌, List, Result, ℕ}
 use Rattle.cyp_lex.specs.Lexemes.{Lexeme}
 use Rattle.cyp_lex.specs.Spelling.{Match}
 use Rattle.cyp_machine.specs.RunInput.{InputTree, IsInputReading, RunInput, input_spelling}
-use Rattle.cyp_prog.specs.Faults.{ProgFault}
+use Rattle.cyp_prog.specs.declared.fault.ProgFault.{ProgFault}
 
 -- lexemes spell one input's tree at most
 abbrev pub OneInputTree : Type 0

@@ -1,6 +1,5 @@
-ghost use Rattle.std.specs.Prelude.{IfOk, IsTrue, length, ◌<◌, ◌^◌, ◌≤◌};
+ghost use Rattle.std.specs.Prelude.{IfOk, length, ◌<◌, ◌^◌, ◌≤◌};
 ghost use Rattle.cyp_machine.specs.Bounds.{IsBounded};
-ghost use Rattle.cyp_machine.specs.InRange.{program_in_range};
 ghost use Rattle.cyp_machine.specs.Outcomes.{IsOutcome};
 ghost use Rattle.cyp_machine.specs.States.{start};
 ghost use Rattle.cyp_prog.specs.Programs.{plain_program};
@@ -23,7 +22,6 @@ pub fn run_program(
     store: Store,
     fuel: u32,
 ) -> Result<Outcome, NoMemory>
-    requires program { IsTrue (program_in_range (plain_program program.now)) }
     requires entry { entry < length program.now.procs }
     requires args { length args.now ≤ 65535 }
     requires numbers { IsBounded (2 ^ 33) (start (plain_program program.now) entry args.now store) }

@@ -1,7 +1,7 @@
 ghost use Rattle.std.specs.Prelude.{IfOk, IsTrue, List, OnErr, Some, None, length, map, ◌+◌, ◌<◌, ◌^◌, ◌≡◌, ◌≤◌};
 ghost use Rattle.std.specs.List.{list_all};
 ghost use Rattle.cyp_machine.specs.Bounds.{IsBounded};
-ghost use Rattle.cyp_machine.specs.InRange.{IsOfProgram, expr_in_range, program_in_range, statement_in_range, test_in_range};
+ghost use Rattle.cyp_machine.specs.InRange.{IsOfProgram, expr_in_range, statement_in_range, test_in_range};
 ghost use Rattle.cyp_machine.specs.Machine.{IsStepped, IsUnderWay, made};
 ghost use Rattle.cyp_machine.specs.Rests.{first_of};
 ghost use Rattle.cyp_machine.specs.States.{start as first_state, has_ended};
@@ -43,7 +43,6 @@ impl<'p> State<'p> {
         args: &[i64],
         store: Store,
     ) -> Result<State<'p>, NoMemory>
-        requires program { IsTrue (program_in_range (plain_program program.now)) }
         requires entry { entry < length program.now.procs }
         requires args { length args.now ≤ 65535 }
         requires numbers { IsBounded (2 ^ 33) (first_state (plain_program program.now) entry args.now store) }
@@ -52,7 +51,7 @@ impl<'p> State<'p> {
         ensures under_way { IfOk result (λ s. IsUnderWay (plain_program program.now) s.steps (state_of s)) }
     {
         let values = parameters(alloc, args)?;
-        let body = program.procs.as_slice()[entry as usize].body.as_slice();
+        let body = program.procs()[entry as usize].body.as_slice();
         Ok(State {
             heap: Heap::new(store),
             frame: Frame::new(alloc, values, body),
@@ -242,7 +241,7 @@ impl<'p> State<'p> {
         ensures err { OnErr result (state_of self.new ≡ state_of self.old) }
         ensures steps { self.new.steps ≡ self.old.steps }
     {
-        let body = program.procs.as_slice()[place as usize].body.as_slice();
+        let body = program.procs()[place as usize].body.as_slice();
         self.callers.reserve(1)?;
         let called = self.frame.call(alloc, args, body)?;
         self.frame.advance();

@@ -52,7 +52,7 @@ no_deeper before b a l k s not_so e deep (inr (inr on)) =
     let heads : k ≡ on.next = cc (on.begins) in
     s b on.more k (on.is ∙ ap (λ (x : Lexeme). b ++ x ∷ on.more) (sym heads)) deep
 
-shallow_more : (before : List Lexeme) (l : Lexeme) → IsShallow before → (IsTooDeep before l → ⊥) → IsShallow (before ++ l ∷ [])
+pub shallow_more : (before : List Lexeme) (l : Lexeme) → IsShallow before → (IsTooDeep before l → ⊥) → IsShallow (before ++ l ∷ [])
 shallow_more before l s not_so b a k e deep = no_deeper before b a l k s not_so e deep (compare before (l ∷ []) b (k ∷ a) e)
 
 -- behind the first lexeme, where it isn't too deep
@@ -65,7 +65,7 @@ shallow_from : (before rest : List Lexeme) → IsShallow before → IsShallow (b
 shallow_from before [] s = inl (subst (λ (ls : List Lexeme). IsShallow ls) (sym (append-nil before)) s)
 shallow_from before (l ∷ rest) s = shallow_by before rest l s (shallow_from (before ++ l ∷ []) rest) (deep_or_not before l)
 
-none_shallow : IsShallow []
+pub none_shallow : IsShallow []
 none_shallow [] after l e deep = cc
 none_shallow (k ∷ before) after l e deep = cc
 
@@ -110,7 +110,7 @@ fault_too_deep A R x bytes before rest says b d =
       })),
     )
 
-refused_is : {A : Type 0} (spell : A → List Mark) (before rest : List Lexeme) → Refused spell before rest → passes.IsRefused spell before rest Expected
+pub refused_is : {A : Type 0} (spell : A → List Mark) (before rest : List Lexeme) → Refused spell before rest → passes.IsRefused spell before rest Expected
 refused_is spell before [] h = h
 refused_is spell before (l ∷ ls) h = h
 

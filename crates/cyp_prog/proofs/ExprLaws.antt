@@ -15,7 +15,7 @@ use Rattle.cyp_lex.specs.declared.want.Want.TheVariants.{NoName}
 use Rattle.cyp_lex.specs.Spelling.{Any, At, Mark}
 use Rattle.cyp_lex.specs.declared.token.Sign.TheVariants as signs
 use Rattle.cyp_lex.specs.declared.token.Word.TheVariants.{Malloc}
-use Rattle.cyp_prog.proofs.ExprReaders.{AnyExpr, AnyNumber, AnyPlace, BlockSource, CellSource, InParens, OtherPlace, SomeTest, VarExpr, any_number, args_at, begins_expr, begins_number, begins_other, begins_place, begins_source, block_source, expr_at, expr_tree, in_parens, is_sum, is_test, is_variable, other_place, place_at, place_tree, source_at, source_tree, sum_of, sum_token, test_at, test_of, test_token, var_expr, var_tree, variable_of, variable_token}
+use Rattle.cyp_prog.specs.ExprReaders.{AnyExpr, AnyNumber, AnyPlace, BlockSource, CellSource, InParens, OtherPlace, SomeTest, VarExpr, any_number, args_at, begins_expr, begins_number, begins_other, begins_place, begins_source, block_source, expr_at, expr_tree, in_parens, is_sum, is_test, is_variable, other_place, place_at, place_tree, source_at, source_tree, sum_of, sum_token, test_at, test_of, test_token, var_expr, var_tree, variable_of, variable_token}
 use Rattle.cyp_prog.specs.Grammar.{expr_spelling, place_spelling, source_spelling, test_sign, variable}
 use Rattle.cyp_prog.specs.Trees.{ExprTree, FromCell, FromMalloc, MinusNum, Num, PlaceExpr, PlaceMinus, PlaceNum, PlaceTree, PlaceVar, SourceTree, Var, VarMinus, VarPlus, VarTree}
 use Rattle.cyp_prog.specs.declared.stmt.TestSign.{TestSign}

@@ -18,9 +18,9 @@ use Rattle.cyp_lex.specs.declared.token.Word.TheVariants.{Void}
 use Rattle.cyp_prog.proofs.Exact.{end_avoids, reads_exact}
 use Rattle.cyp_prog.proofs.ExprLaws.{variable_reads}
 use Rattle.cyp_prog.proofs.StmtLaws.{block_reads, closed_block}
-use Rattle.cyp_prog.proofs.ExprReaders.{is_variable}
+use Rattle.cyp_prog.specs.ExprReaders.{is_variable}
 use Rattle.cyp_prog.specs.Grammar.{param_spelling, params_spelling, proc_spelling, program_spelling}
-use Rattle.cyp_prog.proofs.StmtReaders.{SomeProc, params_at, proc_at, proc_tree, program_at, program_in, program_tree}
+use Rattle.cyp_prog.specs.StmtReaders.{SomeProc, params_at, proc_at, proc_tree, program_at, program_in, program_tree}
 use Rattle.cyp_prog.specs.Trees.{ProcTree, ProgramTree, VarTree}
 
 -- ---- procedures

@@ -8,7 +8,7 @@ use Rattle.cyp_prog.specs.Grammar.{program_spelling}
 use Rattle.cyp_prog.specs.Laws.{OneReading, OneTree, ReadIsNotRefused, SomeReading}
 use Rattle.cyp_prog.specs.Programs.{Procedure}
 use Rattle.cyp_prog.specs.Reading.{program_syntax}
-use Rattle.cyp_prog.proofs.StmtReaders.{program_at}
+use Rattle.cyp_prog.specs.StmtReaders.{program_at}
 use Rattle.cyp_prog.specs.Trees.{ProgramTree}
 use Rattle.std.specs.Prelude.{List}
 

@@ -16,9 +16,9 @@ use Rattle.cyp_lex.specs.Spelling.{Mark, Match, Then, ident, sign, word}
 use Rattle.cyp_lex.specs.declared.token.Sign.TheVariants.{Assign, LeftBrace, LeftParen, RightBrace, RightParen, Semicolon, Star}
 use Rattle.cyp_lex.specs.declared.token.Word.TheVariants.{Else, Error, Free, If, Let}
 use Rattle.cyp_prog.proofs.ExprLaws.{args_reads, enclosed_args, expr_reads, place_reads, some_test_reads, some_test_spelling, source_reads, variable_reads}
-use Rattle.cyp_prog.proofs.ExprReaders.{is_sum}
+use Rattle.cyp_prog.specs.ExprReaders.{is_sum}
 use Rattle.cyp_prog.specs.Grammar.{args_spelling, expr_spelling, place_spelling, source_spelling, stmt_spelling, stmts_spelling, test_spelling, variable}
-use Rattle.cyp_prog.proofs.StmtReaders.{AnyBlock, AnyStmt, SomeCall, SomeElse, SomeError, SomeFree, SomeIf, SomeLet, SomeStore, begins_block, begins_free, begins_if, begins_let, begins_stmt, begins_store, block_at, block_in, block_tree, call_at, error_at, free_at, if_with, let_at, stmt_tree, stmt_with, store_at}
+use Rattle.cyp_prog.specs.StmtReaders.{AnyBlock, AnyStmt, SomeCall, SomeElse, SomeError, SomeFree, SomeIf, SomeLet, SomeStore, begins_block, begins_free, begins_if, begins_let, begins_stmt, begins_store, block_at, block_in, block_tree, call_at, error_at, free_at, if_with, let_at, stmt_tree, stmt_with, store_at}
 use Rattle.cyp_prog.specs.Trees.{BlockTree, CallStmt, ErrorStmt, FreeStmt, IfStmt, LetStmt, NoStmts, StmtTree, Stmts, StoreStmt}
 
 -- ---- statements without blocks

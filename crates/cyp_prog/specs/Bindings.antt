@@ -82,10 +82,18 @@ name_faults earlier [] = []
 name_faults earlier (q ∷ qs) =
     unless (not (list_any (λ (r : ProcTree). bytes_eq r.name.text q.name.text) earlier)) DuplicateName q.name.place ++ name_faults (q ∷ earlier) qs
 
+-- procedures that are too many
+abbrev pub past_faults : List ProcTree → List ProgFault
+past_faults qs = map (λ (q : ProcTree). record { kind = TooLarge; place = q.name.place }) qs
+
 -- a program has at most 65,535 procedures
 abbrev pub count_faults : List ProcTree → List ProgFault
-count_faults qs = map (λ (q : ProcTree). record { kind = TooLarge; place = q.name.place }) (drop 65535 qs)
+count_faults qs = past_faults (drop 65535 qs)
+
+-- all faults of a program of these procedures
+abbrev pub procs_faults : List ProcTree → List ProgFault
+procs_faults qs = name_faults [] qs ++ flat_map (proc_faults qs) qs ++ count_faults qs
 
 -- all faults of the tree
 abbrev pub program_faults : ProgramTree → List ProgFault
-program_faults p = let qs : List ProcTree = procs_of p in name_faults [] qs ++ flat_map (proc_faults qs) qs ++ count_faults qs
+program_faults p = procs_faults (procs_of p)

@@ -1,14 +1,8 @@
 -- The faults of program texts, and which of several comes first.
 use Rattle.std.specs.Prelude.{◌&&◌, ◌==◌, ◌||◌, Bool, List, None, Option, Some, [], cond, nat_lt, ℕ, ◌∷◌}
-
--- what is wrong with a program's text
-pub data ProgKind : Type 0 where
-  BadByte Expected NumberRange UnknownName DuplicateName WrongArity TooLarge : ProgKind
-
--- why a program's text is refused, and at which byte
-pub record ProgFault : Type 0 where
-  pub kind : ProgKind
-  pub place : ℕ
+pub use Rattle.cyp_prog.specs.declared.fault.ProgFault.{ProgFault}
+pub use Rattle.cyp_prog.specs.declared.fault.ProgKind.{ProgKind}
+pub use Rattle.cyp_prog.specs.declared.fault.ProgKind.TheVariants.{BadByte, DuplicateName, Expected, NumberRange, TooLarge, UnknownName, WrongArity}
 
 -- the kinds in order
 abbrev pub kind_number : ProgKind → ℕ
@@ -33,6 +27,11 @@ earlier a (Some b) = Some (cond (comes_before b a) b a)
 abbrev pub least_fault : List ProgFault → Option ProgFault
 least_fault [] = None
 least_fault (a ∷ fs) = earlier a (least_fault fs)
+
+-- the sooner of two faults, if there are any
+abbrev pub sooner : Option ProgFault → Option ProgFault → Option ProgFault
+sooner None b = b
+sooner (Some a) b = earlier a b
 
 -- no fault where the test holds, else this one
 abbrev pub unless : Bool → ProgKind → ℕ → List ProgFault

@@ -1,7 +1,13 @@
 pub mod Programs
+pub mod ProgramValue
+pub mod Rules
 pub mod ProgramText
+pub mod PrintedLists
 pub mod Lexemes
 pub mod Trees
+pub mod ParsedTrees
+pub mod ExprReaders
+pub mod StmtReaders
 pub mod Grammar
 pub mod TreePrograms
 pub mod Faults

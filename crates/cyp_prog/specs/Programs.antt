@@ -1,8 +1,8 @@
 -- Programs as plain trees, and the plain tree of the code's program.
 use Rattle.std.specs.Prelude.{[], List, map, ℕ, ◌∷◌}
+use Rattle.cyp_prog.specs.ProgramValue.{ProgramValue}
 use Rattle.cyp_prog.specs.declared.stmt.Expr.{Expr}
 use Rattle.cyp_prog.specs.declared.stmt.Proc.{Proc}
-use Rattle.cyp_prog.specs.declared.stmt.Program.{Program}
 use Rattle.cyp_prog.specs.declared.stmt.Stmt.{Stmt, fold-Stmt, roll-Stmt}
 use Rattle.cyp_prog.specs.declared.stmt.Stmt.TheOpen.{Stmt-F, Load, Store, Take, Give, Invoke, If, Error}
 use Rattle.cyp_prog.specs.declared.stmt.Test.{Test}
@@ -53,7 +53,7 @@ abbrev pub plain_proc : Proc → Procedure
 plain_proc p = record { name = p.name; params = p.params; body = body_of (map plain_stmt p.body) }
 
 -- the plain trees of a program's procedures in order, the main one first
-abbrev pub plain_program : Program → List Procedure
+abbrev pub plain_program : ProgramValue → List Procedure
 plain_program p = map plain_proc p.procs
 
 abbrev mutual

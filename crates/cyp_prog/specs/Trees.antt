@@ -1,32 +1,14 @@
 -- The syntax of programs as trees. A place is that of a lexeme's first byte.
-use Rattle.std.specs.Prelude.{List, ◌∷◌, ℕ}
+use Rattle.std.specs.Prelude.{List, ◌∷◌}
 use Rattle.cyp_lex.specs.declared.ident.Ident.{Ident}
 use Rattle.cyp_prog.specs.declared.stmt.TestSign.{TestSign}
-
--- a program variable with its place
-pub record VarTree : Type 0 where
-  pub number : ℕ
-  pub place : ℕ
-
--- an expression: a variable, a number, or a variable and a number behind `+` or `-`
-pub data ExprTree : Type 0 where
-  Var : VarTree → ExprTree
-  Num : ℕ → ExprTree
-  MinusNum : ℕ → ExprTree
-  VarPlus : VarTree → ℕ → ExprTree
-  VarMinus : VarTree → ℕ → ExprTree
-
--- the place that is read or written: a variable, a number, or an expression in parentheses
-pub data PlaceTree : Type 0 where
-  PlaceVar : VarTree → PlaceTree
-  PlaceNum : ℕ → PlaceTree
-  PlaceMinus : ℕ → PlaceTree
-  PlaceExpr : ExprTree → PlaceTree
-
--- what is bound by a `let`: the content of a cell, or a new block, whose size has a place
-pub data SourceTree : Type 0 where
-  FromCell : PlaceTree → SourceTree
-  FromMalloc : (place n : ℕ) → SourceTree
+pub use Rattle.cyp_prog.specs.declared.tree.ExprTree.{ExprTree}
+pub use Rattle.cyp_prog.specs.declared.tree.ExprTree.TheVariants.{MinusNum, Num, Var, VarMinus, VarPlus}
+pub use Rattle.cyp_prog.specs.declared.tree.PlaceTree.{PlaceTree}
+pub use Rattle.cyp_prog.specs.declared.tree.PlaceTree.TheVariants.{PlaceExpr, PlaceMinus, PlaceNum, PlaceVar}
+pub use Rattle.cyp_prog.specs.declared.tree.SourceTree.{SourceTree}
+pub use Rattle.cyp_prog.specs.declared.tree.SourceTree.TheVariants.{FromCell, FromMalloc}
+pub use Rattle.cyp_prog.specs.declared.tree.VarTree.{VarTree}
 
 -- a statement, and statements one after another
 mutual

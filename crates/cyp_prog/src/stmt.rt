@@ -1,6 +1,9 @@
 ghost use Rattle.std.specs.Prelude.{◌≡◌};
+ghost use Rattle.cyp_prog.specs.Programs.{plain_program};
+ghost use Rattle.cyp_prog.specs.Rules.{KeepsRules};
 
 use cyp_term::{List, Text};
+use std::marker::Model;
 
 /// A program variable, or nothing, plus an offset.
 #[derive(Clone, Copy, Debug, PartialEq, Eq, Hash)]
@@ -47,8 +50,47 @@ pub struct Proc {
     pub body: List<Stmt>,
 }
 
-/// A program: its main procedure first, then the auxiliary ones.
+/// A program: its main procedure first, then the auxiliary ones. It keeps the rules of programs:
+/// each variable is bound above its uses and numbered by the binders on its path, each call is of a
+/// procedure that is there and has as many arguments as that has parameters, an offset is at most
+/// 2^32 in size, a block has 1 to 8 cells, and no conditional stands inside 128 others.
 #[derive(Debug, Drop, PartialEq, Eq)]
 pub struct Program {
-    pub procs: List<Proc>,
+    procs: List<Proc>,
+}
+
+impl Model for Program {
+    ghost use Rattle.std.specs.Coded.{codes};
+    ghost use Rattle.cyp_prog.specs.ProgramValue.{ProgramValue};
+    ghost use Rattle.cyp_prog.specs.Programs.{plain_program};
+    ghost use Rattle.cyp_prog.specs.Rules.{KeepsRules};
+    ghost use Rattle.cyp_prog.specs.contracts.stmt.Stmt as e;
+
+    ghost Value = { ProgramValue };
+
+    ghost coded = { Prim.hlevel (codes, e.the_row.coded) };
+
+    ghost view = { λ p. record { procs = p.procs } };
+
+    ghost invariant = { λ p. KeepsRules (plain_program (record { procs = p.procs })) };
+
+    ghost inverse = { λ p. record { procs = p.procs } };
+}
+
+impl Program {
+    /// The program of these procedures.
+    pub fn new(procs: List<Proc>) -> Program
+        requires { KeepsRules (plain_program (record { procs = procs })) }
+        ensures { result ≡ record { procs = procs } }
+    {
+        Program { procs }
+    }
+
+    /// The procedures in the order of their places, the main one first.
+    pub fn procs(&self) -> &[Proc]
+        ensures procs { result.now ≡ self.now.procs }
+        ensures keeps { KeepsRules (plain_program self.now) }
+    {
+        self.procs.as_slice()
+    }
 }

@@ -12,7 +12,8 @@ use Rattle.cyp_machine.specs.RunInput.{BlockPiece, CellPiece, InputTree, IsInput
 use Rattle.cyp_machine.specs.declared.cause.Cause.TheVariants.{FreeMissing}
 use Rattle.cyp_prog.proofs.Shallow.{few_braces}
 use Rattle.cyp_prog.specs.Lexemes.{program_lexemes}
-use Rattle.cyp_prog.specs.Trees.{FreeStmt, NoStmts, Stmts, Var}
+use Rattle.cyp_prog.specs.Trees.{FreeStmt, NoStmts, Stmts}
+use Rattle.cyp_prog.specs.declared.tree.ExprTree.TheVariants.{Var}
 use Rattle.cyp_top.specs.Lines.{output}
 use Rattle.cyp_top.specs.RunOutput.{IsRunOutput, first_state}
 use Rattle.cyp_top.specs.WholeOutput.{IsWholeOutput}

@@ -5,7 +5,7 @@ use Rattle.cyp_lex.specs.declared.fault.Fault.{Fault}
 use Rattle.cyp_machine.proofs.ClosedPrograms.{input_is_closed}
 use Rattle.cyp_machine.proofs.Inputs.{one_input_reading, some_input_reading}
 use Rattle.cyp_machine.specs.RunInput.{IsInputReading, RunInput}
-use Rattle.cyp_prog.specs.Faults.{ProgFault}
+use Rattle.cyp_prog.specs.declared.fault.ProgFault.{ProgFault}
 use Rattle.cyp_text.proofs.Decided.{one_tree, parsed}
 use Rattle.cyp_spec.proofs.Exists.{some_reading}
 use Rattle.cyp_spec.proofs.Unique.{one_reading}

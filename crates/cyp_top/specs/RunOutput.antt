@@ -9,8 +9,10 @@ use Rattle.cyp_machine.specs.States.{State, has_ended, start}
 use Rattle.cyp_machine.specs.Steps.{least_pick}
 use Rattle.cyp_machine.specs.declared.cause.Cause.{Cause}
 use Rattle.cyp_machine.specs.declared.cause.Cause.TheVariants.{ErrorReached, FreeMissing, ReadMissing, WriteMissing}
-use Rattle.cyp_prog.specs.Faults.{BadByte, DuplicateName, Expected, NumberRange, ProgFault, ProgKind, TooLarge, UnknownName, WrongArity}
 use Rattle.cyp_prog.specs.ProgramText.{number_text}
+use Rattle.cyp_prog.specs.declared.fault.ProgFault.{ProgFault}
+use Rattle.cyp_prog.specs.declared.fault.ProgKind.{ProgKind}
+use Rattle.cyp_prog.specs.declared.fault.ProgKind.TheVariants.{BadByte, DuplicateName, Expected, NumberRange, TooLarge, UnknownName, WrongArity}
 use Rattle.cyp_top.specs.Lines.{Output, line, output}
 use Rattle.cyp_top.specs.Reports.{refused_at}
 use Rattle.cyp_top.specs.declared.status.Status.TheVariants.{NoProgram, Program, Spent}

@@ -9,10 +9,10 @@ use Rattle.cyp_machine.proofs.state.State.invoke.Goals as goal
 
 pub returns-clause-ok : goal.returns-clause-ok
 returns-clause-ok c =
-    let there = called c.args.program.now.procs c.as_slice.result.now c.args.place c.index-as_slice-place.result c.as_slice.ensures c.requires.there in
+    let there = called c.args.program.now.procs c.procs.result.now c.args.place c.index-procs-place.result c.procs.ensures.procs c.requires.there in
     steps (Invoking c.args.place c.args.args.now) c.args.self.now.heap (frame_of c.args.self.now.frame) (map frame_of c.args.self.now.callers.items) c.requires.at
     (plain_program c.args.program.now) _ (
-      plain_proc (get_or c.as_slice.result.now c.args.place c.index-as_slice-place.result),
+      plain_proc (get_or c.procs.result.now c.args.place c.index-procs-place.result),
       there,
       λ i. record {
         store = c.args.self.now.heap;

@@ -1,5 +1,6 @@
 use Rattle.std.proofs.Common.{ap, map, refl, sym, ◌∙◌, ◌∷◌}
 use Rattle.cyp_machine.proofs.Called.{called}
+use Rattle.cyp_machine.proofs.RulesInRange.{rules_in_range}
 use Rattle.cyp_machine.proofs.RunSteps.{under_way_at}
 use Rattle.cyp_machine.proofs.UnderWay.{first_under_way}
 use Rattle.cyp_machine.specs.FrameView.{frame_of}
@@ -10,7 +11,7 @@ use Rattle.cyp_machine.proofs.state.State.start.Goals as goal
 
 pub returns-clause-state : goal.returns-clause-state
 returns-clause-state c =
-    let there = called c.args.program.now.procs c.as_slice.result.now c.args.entry c.index-as_slice-entry.result c.as_slice.ensures c.requires.entry in
+    let there = called c.args.program.now.procs c.procs.result.now c.args.entry c.index-procs-entry.result c.procs.ensures.procs c.requires.entry in
     λ i. record {
       store = c.new.ensures i;
       frames =
@@ -22,4 +23,4 @@ pub returns-clause-under_way : goal.returns-clause-under_way
 returns-clause-under_way c =
     under_way_at (plain_program c.args.program.now) (first_state (plain_program c.args.program.now) c.args.entry c.args.args.now c.args.store) _ 0
     (returns-clause-state c) refl
-    (first_under_way (plain_program c.args.program.now) c.args.entry c.args.args.now c.args.store c.requires.program c.requires.numbers)
+    (first_under_way (plain_program c.args.program.now) c.args.entry c.args.args.now c.args.store (rules_in_range (plain_program c.args.program.now) c.procs.ensures.keeps) c.requires.numbers)

@@ -7,7 +7,8 @@ use Rattle.cyp_lex.specs.declared.want.Want.TheVariants.{AName, NoName}
 use Rattle.cyp_lex.specs.declared.ident.Ident.{Ident}
 use Rattle.cyp_lex.specs.declared.token.Sign.TheVariants.{Assign, LeftBrace, LeftParen, RightBrace, RightParen, Semicolon, Star}
 use Rattle.cyp_lex.specs.declared.token.Word.TheVariants.{Else, Error, Free, If, Let, Void}
-use Rattle.cyp_prog.proofs.ExprReaders.{SomeTest, args_at, expr_at, is_variable, place_at, source_at, test_at, variable_token}
+use Rattle.cyp_prog.specs.ExprReaders.{SomeTest, args_at, expr_at, is_variable, place_at, source_at, test_at, variable_token}
+use Rattle.cyp_prog.specs.declared.stmt.TestSign.{TestSign}
 use Rattle.cyp_prog.specs.Trees.{BlockTree, CallStmt, ErrorStmt, ExprTree, FreeStmt, IfStmt, LetStmt, NoStmts, PlaceTree, ProcTree, ProgramTree, SourceTree, StmtTree, Stmts, StoreStmt, VarTree}
 
 -- ---- statements; a block is read up to behind the brace that closes it
@@ -53,6 +54,36 @@ SomeError = Unit {0} × Unit {0}
 
 abbrev pub error_at : List Lexeme → Read SomeError
 error_at ts = both (word_token Error) (sign_token Semicolon) ts
+
+-- each kind of statement
+
+-- a call
+abbrev pub call_stmt : List Lexeme → Read StmtTree
+call_stmt ts = mapped (λ (x : SomeCall). CallStmt x.0 x.1.1.0) call_at ts
+
+-- a `let`
+abbrev pub let_stmt : List Lexeme → Read StmtTree
+let_stmt ts = mapped (λ (x : SomeLet). LetStmt x.1.0 x.1.1.1.0) let_at ts
+
+-- a store
+abbrev pub store_stmt : List Lexeme → Read StmtTree
+store_stmt ts = mapped (λ (x : SomeStore). StoreStmt x.1.0 x.1.1.1.0) store_at ts
+
+-- a `free`
+abbrev pub free_stmt : List Lexeme → Read StmtTree
+free_stmt ts = mapped (λ (x : SomeFree). FreeStmt x.1.1.0) free_at ts
+
+-- a conditional, with a reader of its blocks
+abbrev pub if_stmt : (List Lexeme → Read BlockTree) → List Lexeme → Read StmtTree
+if_stmt block ts = mapped (λ (x : SomeIf). IfStmt x.1.0.1.0 x.1.0.1.1.0 x.1.0.1.1.1.0 x.1.1.1.0 x.1.1.1.1.1.1) (if_with block) ts
+
+-- `error`
+abbrev pub error_stmt : List Lexeme → Read StmtTree
+error_stmt ts = mapped (λ (x : SomeError). ErrorStmt) error_at ts
+
+-- the two sides of a test and the comparison between them, in its parentheses
+abbrev pub some_test : ExprTree × TestSign × ExprTree → SomeTest
+some_test x = (tt, (x.0, (x.1, (x.2, tt))))
 
 abbrev pub begins_if : Said → Bool
 begins_if = one_of (is_word If) (is_word Error)

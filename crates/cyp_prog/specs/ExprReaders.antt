@@ -52,6 +52,15 @@ begins_number = one_of is_number (is_sign signs.Minus)
 abbrev pub any_number : List Lexeme → Read AnyNumber
 any_number ts = first_tells NoName is_number (is_sign signs.Minus) number_token (both (sign_token signs.Minus) number_token) ts
 
+-- a number, behind whether a minus is before it
+abbrev pub signed : AnyNumber → Bool × ℕ
+signed (inl n) = (false, n)
+signed (inr x) = (true, x.1)
+
+-- a number, or one behind `-`
+abbrev pub signed_number : List Lexeme → Read (Bool × ℕ)
+signed_number ts = mapped signed any_number ts
+
 abbrev pub AnyExpr : Type 0
 AnyExpr = VarExpr ⊎ AnyNumber
 
@@ -62,6 +71,10 @@ sum_tree v (Some y) = of y.0 y.1
     of : Bool → ℕ → ExprTree
     of true n = VarPlus v n
     of false n = VarMinus v n
+
+-- a variable, and maybe a number behind `+` or `-`
+abbrev pub sum_expr : List Lexeme → Read ExprTree
+sum_expr ts = mapped (λ (x : VarExpr). sum_tree x.0 x.1) var_expr ts
 
 abbrev pub expr_tree : AnyExpr → ExprTree
 expr_tree (inl x) = sum_tree x.0 x.1
@@ -80,6 +93,10 @@ InParens = Unit {0} × (ExprTree × Unit {0})
 
 abbrev pub in_parens : List Lexeme → Read InParens
 in_parens ts = both (sign_token signs.LeftParen) (both expr_at (sign_token signs.RightParen)) ts
+
+-- an expression in parentheses, as a place
+abbrev pub paren_place : List Lexeme → Read PlaceTree
+paren_place ts = mapped (λ (x : InParens). PlaceExpr x.1.0) in_parens ts
 
 abbrev pub OtherPlace : Type 0
 OtherPlace = AnyNumber ⊎ InParens
@@ -114,6 +131,14 @@ BlockSource = Unit {0} × (Unit {0} × ((ℕ × ℕ) × Unit {0}))
 
 abbrev pub block_source : List Lexeme → Read BlockSource
 block_source ts = both (word_token Malloc) (both (sign_token signs.LeftParen) (both placed_number (sign_token signs.RightParen))) ts
+
+-- the content of a cell
+abbrev pub cell_source : List Lexeme → Read SourceTree
+cell_source ts = mapped (λ (x : CellSource). FromCell x.1) (both (sign_token signs.Star) place_at) ts
+
+-- a new block
+abbrev pub malloc_source : List Lexeme → Read SourceTree
+malloc_source ts = mapped (λ (x : BlockSource). FromMalloc x.1.1.0.0 x.1.1.0.1) block_source ts
 
 abbrev pub source_tree : CellSource ⊎ BlockSource → SourceTree
 source_tree (inl x) = FromCell x.1
