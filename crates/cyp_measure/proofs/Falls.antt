@@ -1,5 +1,5 @@
 -- The entries of a measure that falls, one by one.
-use Rattle.std.proofs.Common.{◌≡◌, ℕ, zero, suc, ◌+◌, ◌-◌, ◌<◌, ◌≤◌, List, [], ◌∷◌, ◌++◌, length, get_or, map, take, drop, refl, sym, ap, ◌∙◌, arith, add-one, drop-cons, append_assoc}
+use Rattle.std.proofs.Common.{◌≡◌, ℕ, zero, suc, ◌+◌, ◌-◌, ◌<◌, ◌≤◌, List, [], ◌∷◌, ◌++◌, length, get_or, take, drop, refl, sym, ap, ◌∙◌, arith, add-one, drop-cons, append_assoc}
 use Rattle.std.proofs.lemmas.List.{get_or-map, length-map, take_all, take_more}
 use Rattle.cyp_measure.specs.Decrease.{decreases, falls_at}
 use Rattle.cyp_term.specs.declared.lit.Lit.{Lit}
@@ -45,5 +45,5 @@ entry_more os ns k lt e =
     let within : k < length (decreases os ns) = omega (arith, length-decreases os ns e, lt) in
     ap (λ x. take k (decreases os ns) ++ x ∷ []) (sym (entry os ns k lt e)) ∙ sym (take_more (decreases os ns) k [] within)
 
-pub all_entries : (os ns : List Term) → length os ≡ length ns → take (length os) (decreases os ns) ≡ decreases os ns
-all_entries os ns e = take_all (length os) (decreases os ns) (omega (arith, length-decreases os ns e))
+pub all_entries : (os ns : List Term) (k : ℕ) (made : List (List Lit)) → length os ≡ length ns → length os ≤ k → made ≡ take k (decreases os ns) → made ≡ decreases os ns
+all_entries os ns k made e all h = h ∙ take_all k (decreases os ns) (omega (arith, length-decreases os ns e, all))

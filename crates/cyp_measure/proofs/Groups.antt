@@ -1,7 +1,7 @@
 -- The groups of tuples, and the zeros behind them.
-use Rattle.std.proofs.Common.{◌≡◌, ℕ, zero, suc, ◌+◌, ◌-◌, ◌*◌, ◌<◌, ◌≤◌, All, List, [], ◌∷◌, ◌++◌, flat_map, length, replicate, take, refl, sym, ap, ◌∙◌, arith, append_assoc, append-nil, length-append, take_all}
+use Rattle.std.proofs.Common.{◌≡◌, ℕ, zero, suc, ◌+◌, ◌-◌, ◌*◌, ◌<◌, ◌≤◌, All, List, [], ◌∷◌, ◌++◌, flat_map, length, replicate, take, drop, Result, Ok, Err, OnOk, refl, sym, ap, ◌∙◌, arith, append_assoc, append-nil, length-append}
 use Rattle.std.proofs.lemmas.List.Elements.{All-head, All-tail}
-use Rattle.std.proofs.lemmas.List.{length-replicate, replicate-append-replicate, take-append-le, take-replicate, take_at}
+use Rattle.std.proofs.lemmas.List.{drop_all, length-replicate, replicate-append-replicate, take-replicate, take_at}
 use Rattle.cyp_measure.specs.Levels.{group, groups, levels, pad}
 
 -- the first numbers of a list with zeros behind it
@@ -19,6 +19,14 @@ group_short xs le =
     let within : length (0 ∷ xs) ≤ 17 = omega (arith, le) in
     let same : 16 - length xs ≡ 17 - length (0 ∷ xs) = omega arith in
     ap (λ k. (0 ∷ xs) ++ replicate k 0) same ∙ sym (padded 17 17 (0 ∷ xs) within (omega arith))
+
+-- the tuple behind its mark, and the zeros
+pub group_added : {A E : Type 0} (r : Result A E) (old now new t : List ℕ) (k : ℕ) → now ++ drop k t ≡ (old ++ 0 ∷ []) ++ t → length t ≤ k → length t ≤ 16
+    → OnOk r (new ≡ now ++ replicate (16 - length t) 0) → OnOk r (new ≡ old ++ group t)
+group_added (Ok x) old now new t k h all le e =
+    let whole : now ≡ old ++ 0 ∷ t = sym (append-nil now) ∙ ap (λ r. now ++ r) (sym (drop_all k t all)) ∙ h ∙ append_assoc old (0 ∷ []) t in
+    e ∙ ap (λ ns. ns ++ replicate (16 - length t) 0) whole ∙ append_assoc old (0 ∷ t) (replicate (16 - length t) 0) ∙ ap (λ ns. old ++ ns) (group_short t le)
+group_added (Err x) old now new t k h all le e = tt
 
 pub length-group : (xs : List ℕ) → length xs ≤ 16 → length (group xs) ≡ 17
 length-group xs le =
@@ -40,10 +48,11 @@ levels_fewer ts h lt =
     let long : length (flat_map group ts ++ 1 ∷ []) ≡ 17 * length ts + 1 = length-append (flat_map group ts) (1 ∷ []) ∙ ap (λ k. k + 1) (length-groups ts h) in
     let within : length (flat_map group ts ++ 1 ∷ []) ≤ 68 = omega (arith, long, lt) in
     let zeros : 17 * (4 - length ts) - 1 ≡ 68 - length (flat_map group ts ++ 1 ∷ []) = omega (arith, long, lt) in
-    ap (λ k. (flat_map group ts ++ 1 ∷ []) ++ replicate k 0) zeros ∙ sym (padded 68 84 (flat_map group ts ++ 1 ∷ []) within (omega arith))
-    ∙ ap (take 68) (ap (λ r. (flat_map group ts ++ 1 ∷ []) ++ r) (sym (replicate-append-replicate 16 68 0))
+    let behind : (flat_map group ts ++ 1 ∷ []) ++ replicate (16 + 68) 0 ≡ groups ts ++ replicate 68 0
+    = ap (λ r. (flat_map group ts ++ 1 ∷ []) ++ r) (sym (replicate-append-replicate 16 68 0))
     ∙ sym (append_assoc (flat_map group ts ++ 1 ∷ []) (replicate 16 0) (replicate 68 0))
-    ∙ ap (λ r. r ++ replicate 68 0) (append_assoc (flat_map group ts) (1 ∷ []) (replicate 16 0) ∙ sym (groups-flat ts)))
+    ∙ ap (λ r. r ++ replicate 68 0) (append_assoc (flat_map group ts) (1 ∷ []) (replicate 16 0) ∙ sym (groups-flat ts)) in
+    ap (λ k. (flat_map group ts ++ 1 ∷ []) ++ replicate k 0) zeros ∙ sym (padded 68 (16 + 68) (flat_map group ts ++ 1 ∷ []) within (omega arith)) ∙ ap (take 68) behind
 
 -- as many tuples as groups
 pub levels_full : (ts : List (List ℕ)) → All (λ t. length t ≤ 16) ts → length ts ≡ 4 → flat_map group ts ≡ levels ts

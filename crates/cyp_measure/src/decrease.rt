@@ -1,4 +1,4 @@
-ghost use Rattle.std.specs.Prelude.{◌≡◌, ◌≤◌, ◌<◌, IfOk, length};
+ghost use Rattle.std.specs.Prelude.{◌≡◌, ◌<◌, IfOk, length};
 ghost use Rattle.cyp_measure.specs.Decrease.{decreases as the_decreases, falls_at as the_fall_at};
 
 use cyp_term::{List, Lit, NoMemory, Term};
@@ -21,14 +21,9 @@ fn fall_at(alloc: Global, old: &[Term], new: &[Term], place: usize) -> Result<Li
 
 /// The ways in which a measure falls, from the old tuple to the new one: for each place, that
 /// nothing rises before it and the number there falls.
-#[tactic(auto, using(crate::proofs::Falls::entry_more, crate::proofs::Falls::all_entries))]
-pub fn decreases(
-    alloc: Global,
-    old: &[Term],
-    new: &[Term],
-) -> Result<List<List<Lit>>, NoMemory>
-    requires equal { length old.now ≡ length new.now }
-    requires few { length old.now ≤ 64 }
+#[tactic(auto, using(crate::proofs::Falls::entry_more))]
+pub fn decreases(alloc: Global, old: &[Term], new: &[Term]) -> Result<List<List<Lit>>, NoMemory>
+    requires { length old.now ≡ length new.now }
     ensures { IfOk result (λ ways. ways ≡ the_decreases old.now new.now) }
 {
     let mut ways = Vec::new(alloc);

@@ -21,7 +21,6 @@ fn add_zeros(numbers: &mut Vec<u64>, count: usize) -> Result<(), NoMemory>
 }
 
 /// Adds the group of the tuple.
-#[tactic(auto, using(crate::proofs::Groups::group_short))]
 fn add_group(numbers: &mut Vec<u64>, tuple: &[u64]) -> Result<(), NoMemory>
     requires { length tuple.now ≤ 16 }
     ensures { OnOk result (numbers.new.items ≡ numbers.old.items ++ group tuple.now) }
