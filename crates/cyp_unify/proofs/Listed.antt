@@ -1,6 +1,5 @@
 -- How a listing of matches grows: by the match of a pairing, by those of a place, and by those of one place after another.
 use Rattle.std.proofs.Common.{◌≡◌, ◌∙◌, ◌+◌, ◌-◌, ◌++◌, ◌≤◌, ◌<◌, ◌==◌, ℕ, suc, Bool, true, false, cond, List, [], ◌∷◌, Option, Some, None, MatchOption, OnOk, Result, Ok, Err, length, take, drop, get_or, flat_map, refl, ap, sym, add-one, append_assoc, append-nil, arith}
-use Rattle.std.specs.List.{slice_get}
 use Rattle.std.specs.Option.{option_to_list}
 use Rattle.std.proofs.lemmas.Bool.{false≢true}
 use Rattle.std.proofs.lemmas.List.{drop_all, length-append, take_all, take_at}
@@ -94,8 +93,8 @@ module _ (present : List Chunk) (l : Link) (before : Listing) where
       let is : new ≡ with_more s here = e ∙ ap (λ ks. with_more s (matches_by present l ks c cs k)) (ap (λ (x : Listing). x.chosen) h.1) in (
         few_more s new here is,
         ap (λ x. with_more x more) is
-        ∙ ap (listed s.chosen) (first_again 64 (s.found ++ here) more ∙ ap (take 64) (append_assoc s.found here more ∙ ap (λ ms. s.found ++ ms) (sym (places_next present l before.chosen c cs k lt))))
-        ∙ h.1,
+            ∙ ap (listed s.chosen) (first_again 64 (s.found ++ here) more ∙ ap (take 64) (append_assoc s.found here more ∙ ap (λ ms. s.found ++ ms) (sym (places_next present l before.chosen c cs k lt))))
+            ∙ h.1,
       )
 
   pub goes_on : (wanted : List Chunk) (s : Listing) (k : ℕ) (c : Chunk) (cs : List Chunk) → (length wanted == 0) ≡ false → c ≡ get_or wanted 0 c → cs ≡ take (length wanted - 1) (drop 1 wanted) → k < length present → Goes present l wanted before s k

@@ -1,7 +1,6 @@
-use Rattle.std.proofs.Common.{◌∙◌, ap, arith, refl, sym}
+use Rattle.std.proofs.Common.{◌∙◌, arith, refl, sym}
 use Rattle.cyp_unify.specs.Listing.{matches_by}
-use Rattle.cyp_unify.specs.Meeting.{may_pair}
-use Rattle.cyp_unify.proofs.Listed.{full, goes_first, goes_last, goes_on, not_paired, paired_by}
+use Rattle.cyp_unify.proofs.Listed.{full, goes_last, goes_on, not_paired, paired_by}
 use Rattle.cyp_unify.proofs.listing.Listing.+extend.Goals as goal
 
 pub extend-loop-place-preserved : goal.extend-loop-place-preserved
