@@ -1,2 +1,4 @@
 mod Examples
 mod ExamplesFalling
+pub mod Falls
+pub mod Groups

@@ -4,6 +4,7 @@
 mod binding;
 mod found;
 mod frames;
+mod listing;
 mod meets;
 mod pairing;
 mod vars;
@@ -11,4 +12,5 @@ mod walk;
 
 pub use found::{Match, Mend, Pair};
 pub use frames::frame_pairs;
+pub use listing::matches;
 pub use pairing::match_at;

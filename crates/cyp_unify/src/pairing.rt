@@ -15,7 +15,7 @@ use std::alloc::Global;
 
 /// Whether the chunk may be paired with the present chunk at this place, which is none of the later
 /// places.
-fn may_pair(present: &[Chunk], chunk: &Chunk, place: u8, later: &[u8]) -> bool
+pub(crate) fn may_pair(present: &[Chunk], chunk: &Chunk, place: u8, later: &[u8]) -> bool
     ensures { result ≡ may_pair present.now chunk.now place later.now }
 {
     match present.get(usize::from(place)) {
