@@ -1,6 +1,8 @@
 //! What an instance of a predicate unfolds to.
 #![tactic(auto)]
 
+mod bindings;
+mod subinstances;
 mod unfolded;
 mod unfolding;
 
