@@ -28,12 +28,6 @@ with_tag card tag n (Inst i) = Inst (record { pred = i.pred; args = i.args; card
 with_tag card tag n (Block b) = Block b
 with_tag card tag n (Cell c) = Cell c
 
--- the number behind the chunk's
-abbrev pub next_number : ℕ → Chunk → ℕ
-next_number n (Inst i) = suc n
-next_number n (Block b) = n
-next_number n (Cell c) = n
-
 -- the first number of the new cardinalities, and 0 where there are none
 abbrev pub first_number : Option Var → ℕ → ℕ
 first_number None n = 0

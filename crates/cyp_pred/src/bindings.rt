@@ -1,6 +1,6 @@
 //! A clause's variables bound: its parameters to arguments, its own to new ones.
 
-ghost use Rattle.std.specs.Prelude.{IfOk, OnOk, length, map, ◌+◌, ◌++◌, ◌<◌, ◌≡◌, ◌≤◌};
+ghost use Rattle.std.specs.Prelude.{IfOk, OnOk, [], length, map, ◌+◌, ◌++◌, ◌<◌, ◌∷◌, ◌≡◌, ◌≤◌};
 ghost use Rattle.cyp_pred.specs.Unfold.{bind_ints, bind_sets, clause_subst, int_args, new_ints, new_sets, own_ints, own_sets, set_args};
 ghost use Rattle.cyp_term.specs.Terms.{set_var, var_term};
 ghost use Rattle.cyp_term.specs.declared.term.Sort.TheVariants.{Int, Set};
@@ -30,6 +30,55 @@ fn set_bind(number: u8, to: SetTerm) -> SetBind
     }
 }
 
+/// How many integers the argument is, one or none.
+fn ints_of(arg: &Arg) -> u8
+    ensures value { result ≡ length (int_args (arg.now ∷ [])) }
+    ensures most { result ≤ 1 }
+{
+    match arg {
+        Arg::Int(_) => 1,
+        Arg::Set(_) => 0,
+    }
+}
+
+/// How many sets the argument is, one or none.
+fn sets_of(arg: &Arg) -> u8
+    ensures value { result ≡ length (set_args (arg.now ∷ [])) }
+    ensures most { result ≤ 1 }
+{
+    match arg {
+        Arg::Int(_) => 0,
+        Arg::Set(_) => 1,
+    }
+}
+
+/// Binds the variable with this number to the argument, if it is an integer.
+fn add_int(binds: &mut Vec<IntBind>, number: u8, arg: &Arg) -> Result<(), NoMemory>
+    ensures { OnOk result (binds.new.items ≡ binds.old.items ++ bind_ints number (int_args (arg.now ∷ []))) }
+{
+    match arg {
+        Arg::Int(term) => {
+            binds.push(int_bind(number, *term))?;
+            Ok(())
+        }
+        Arg::Set(_) => Ok(()),
+    }
+}
+
+/// Binds the set variable with this number to the argument, if it is a set.
+fn add_set(alloc: Global, binds: &mut Vec<SetBind>, number: u8, arg: &Arg) -> Result<(), NoMemory>
+    ensures { OnOk result (binds.new.items ≡ binds.old.items ++ bind_sets number (set_args (arg.now ∷ []))) }
+{
+    match arg {
+        Arg::Int(_) => Ok(()),
+        Arg::Set(set) => {
+            let to = set.copy(alloc)?;
+            binds.push(set_bind(number, to))?;
+            Ok(())
+        }
+    }
+}
+
 /// The first variables, bound to the integer arguments in order.
 fn bound_ints(alloc: Global, args: &[Arg]) -> Result<Vec<IntBind>, NoMemory>
     requires { length args.now ≤ 8 }
@@ -38,10 +87,8 @@ fn bound_ints(alloc: Global, args: &[Arg]) -> Result<Vec<IntBind>, NoMemory>
     let mut binds = Vec::new(alloc);
     let mut number = 0;
     for arg in args {
-        if let Arg::Int(term) = arg {
-            binds.push(int_bind(number, *term))?;
-            number += 1;
-        }
+        add_int(&mut binds, number, arg)?;
+        number += ints_of(arg);
     }
     Ok(binds)
 }
@@ -54,11 +101,8 @@ fn bound_sets(alloc: Global, args: &[Arg]) -> Result<Vec<SetBind>, NoMemory>
     let mut binds = Vec::new(alloc);
     let mut number = 0;
     for arg in args {
-        if let Arg::Set(set) = arg {
-            let to = set.copy(alloc)?;
-            binds.push(set_bind(number, to))?;
-            number += 1;
-        }
+        add_set(alloc, &mut binds, number, arg)?;
+        number += sets_of(arg);
     }
     Ok(binds)
 }
@@ -120,9 +164,7 @@ fn count_ints(args: &[Arg]) -> u8
 {
     let mut count = 0;
     for arg in args {
-        if let Arg::Int(_) = arg {
-            count += 1;
-        }
+        count += ints_of(arg);
     }
     count
 }
@@ -135,9 +177,7 @@ fn count_sets(args: &[Arg]) -> u8
 {
     let mut count = 0;
     for arg in args {
-        if let Arg::Set(_) = arg {
-            count += 1;
-        }
+        count += sets_of(arg);
     }
     count
 }

@@ -2,7 +2,7 @@
 
 ghost use Rattle.std.specs.Prelude.{IfOk, IsTrue, OnOk, Some, [], length, ◌+◌, ◌++◌, ◌<◌, ◌∷◌, ◌≡◌, ◌≤◌};
 ghost use Rattle.cyp_heap.specs.Chunks.{insts};
-ghost use Rattle.cyp_pred.specs.Parts.{first_number, next_number, with_tag};
+ghost use Rattle.cyp_pred.specs.Parts.{first_number, with_tag};
 ghost use Rattle.cyp_pred.specs.Unfold.{below_card, card_var, cards_used, count_from, new_card, with_tags};
 ghost use Rattle.cyp_pred.specs.Unfoldable.{card_fits};
 ghost use Rattle.cyp_term.specs.Terms.{sort_eq, var_term};
@@ -50,15 +50,15 @@ fn with_tag(card: Option<Var>, tag: u8, number: u8, chunk: Chunk) -> Chunk
     }
 }
 
-/// The number of the next cardinality.
-fn next_number(number: u8, chunk: &Chunk) -> u8
-    requires { number + length (insts (chunk.now ∷ [])) < 256 }
-    ensures { result ≡ next_number number chunk.now }
+/// How many instances the chunk is, one or none.
+fn insts_of(chunk: &Chunk) -> u8
+    ensures value { result ≡ length (insts (chunk.now ∷ [])) }
+    ensures most { result ≤ 1 }
 {
     match chunk {
-        Chunk::Inst(_) => number + 1,
-        Chunk::Block(_) => number,
-        Chunk::Cell(_) => number,
+        Chunk::Inst(_) => 1,
+        Chunk::Block(_) => 0,
+        Chunk::Cell(_) => 0,
     }
 }
 
@@ -76,9 +76,9 @@ pub(crate) fn with_tags(
     let mut tagged = Vec::new(alloc);
     let mut number = first;
     for chunk in chunks.into_vec() {
-        let next = next_number(number, &chunk);
+        let count = insts_of(&chunk);
         tagged.push(with_tag(card, tag, number, chunk))?;
-        number = next;
+        number += count;
     }
     Ok(List::from_vec(tagged))
 }
@@ -90,9 +90,7 @@ pub(crate) fn count_insts(chunks: &[Chunk]) -> u8
 {
     let mut count = 0;
     for chunk in chunks {
-        if let Chunk::Inst(_) = chunk {
-            count += 1;
-        }
+        count += insts_of(chunk);
     }
     count
 }
