@@ -4,8 +4,8 @@ ghost use Rattle.std.specs.Prelude.{IfOk, IsTrue, length, map, slice_get, suc, �
 ghost use Rattle.std.specs.List.{list_all, list_any};
 ghost use Rattle.cyp_heap.specs.Chunks.{insts};
 ghost use Rattle.cyp_pred.specs.Parts.{apply_clause, entry, first_number, is_ready, next_after, wide_clause};
-ghost use Rattle.cyp_pred.specs.Unfold.{clauses_of, unfold_clause, unfold_inst, wide_unfolded, with_tags};
-ghost use Rattle.cyp_pred.specs.Unfoldable.{CanUnfold, card_fits, is_numbered, wide_entry};
+ghost use Rattle.cyp_pred.specs.Unfold.{cards_used, clauses_of, own_ints, own_sets, unfold_clause, unfold_inst, wide_unfolded, with_tags};
+ghost use Rattle.cyp_pred.specs.Unfoldable.{CanUnfold, card_fits, wide_entry};
 ghost use Rattle.cyp_term.specs.Answers.{GivesUnless};
 ghost use Rattle.cyp_term.specs.Terms.{apply_lit, wide_lit};
 
@@ -45,7 +45,9 @@ fn apply_clause(alloc: Global, clause: &Clause, by: &Subst) -> Result<Clause, Fa
 /// The next free numbers behind the clause's new variables.
 fn next_after(inst: &InstOf, next: Next, clause: &Clause, count: u8) -> Next
     requires args { length inst.now.args ≤ 8 }
-    requires fits { IsTrue (is_numbered (next_after inst.now next clause.now count)) }
+    requires ints { next.ints + own_ints inst.now.args clause.now < 256 }
+    requires cards { next.cards + cards_used inst.now.card count < 256 }
+    requires sets { next.sets + own_sets inst.now.args clause.now < 256 }
     ensures { result ≡ next_after inst.now next clause.now count }
 {
     let args = inst.args.as_slice();
@@ -73,7 +75,9 @@ fn entry(alloc: Global, inst: &InstOf, next: Next, applied: Clause) -> Result<Un
     requires chunks { length applied.heap.chunks ≤ 8 }
     requires card { IsTrue (card_fits inst.now.card) }
     requires tag { inst.now.tag < 255 }
-    requires fits { IsTrue (is_numbered (entry inst.now next applied).next) }
+    requires ints { next.ints + own_ints inst.now.args applied < 256 }
+    requires cards { next.cards + cards_used inst.now.card (length (insts applied.heap.chunks)) < 256 }
+    requires sets { next.sets + own_sets inst.now.args applied < 256 }
     ensures { IfOk result (λ u. u ≡ entry inst.now next applied) }
 {
     let count = count_insts(applied.heap.chunks());
