@@ -51,7 +51,7 @@ module _ (i : InstOf) (next : Next) (ints : next.ints ≤ 32) (cards : next.card
       let chunks : length c.heap.chunks ≤ 8 = leb-true (length c.heap.chunks) 8 (part_1 _ _ _ _ _ h) in
       let most_ints : c.ints ≤ 64 = leb-true c.ints 64 (part_3 _ _ _ _ _ h) in
       let most_sets : c.sets ≤ 32 = leb-true c.sets 32 (part_4 _ _ _ _ _ h) in
-      let as_many : length cs ≡ length c.heap.chunks = length-map (apply_chunk by) c.heap.chunks in
+      let as_many : length cs ≡ length c.heap.chunks = length-map c.heap.chunks (apply_chunk by) in
       let few : length (insts cs) ≤ length cs = few_insts cs in
       let used : cards_used i.card (length (insts cs)) ≤ length (insts cs) = used_most i.card (length (insts cs)) in
       let n : Next = (unfold_clause i next c).next in

@@ -76,6 +76,22 @@ module _ (i : InstOf) (next : Next) where
       let same : length i.args ≡ length q.params = as_many i.args q.params fit in
       omega arith
 
+module _ (i : InstOf) (next : Next) (preds : Preds) (qs : List Pred) (q : Pred) where
+  -- the same of the list that the code reads
+  pub few_args_at : qs ≡ preds.list → IsFormedPreds preds → IsTrue (inst_fits preds i) → q ≡ get_or qs i.pred q → length i.args ≤ 8
+  few_args_at same formed fits is =
+      few_args i next preds q formed fits (pred_there i preds.list i.pred fits) (is ∙ ap (λ ps. get_or ps i.pred q) same)
+
+  clauses_are : qs ≡ preds.list → IsTrue (inst_fits preds i) → q ≡ get_or qs i.pred q → clauses_of (slice_get preds.list i.pred) ≡ q.clauses
+  clauses_are same fits is =
+      ap clauses_of (slice_get_read preds.list (length preds.list) i.pred q refl (pred_there i preds.list i.pred fits) (is ∙ ap (λ ps. get_or ps i.pred q) same))
+
+  pub ready_at : (cs : List Clause) → qs ≡ preds.list → IsFormedPreds preds → IsTrue (inst_fits preds i)
+      → IsTrue (list_all (λ (u : Unfolded). is_numbered u.next) (map (unfold_clause i next) (clauses_of (slice_get preds.list i.pred))))
+      → q ≡ get_or qs i.pred q → cs ≡ q.clauses → IsTrue (list_all (is_ready i next) cs)
+  ready_at cs same formed fits n is are =
+      ap (list_all (is_ready i next)) (are ∙ sym (clauses_are same fits is)) ∙ all_ready i next preds formed n
+
 -- ---- the clause
 
 -- at most 8 chunks, and a number for each new variable
@@ -95,7 +111,7 @@ ready_of i next c h =
     let r : IsTrue (nat_lt n.ints 256) × IsTrue (nat_lt n.cards 256) = and_parts _ _ q.0 in
     let few : length c.heap.chunks ≤ 8 = leb-true (length c.heap.chunks) 8 p.0 in
     record {
-      chunks = rw (length-map (apply_chunk by) c.heap.chunks) few;
+      chunks = rw (length-map c.heap.chunks (apply_chunk by)) few;
       ints = ltb-true n.ints 256 r.0;
       cards = ltb-true n.cards 256 r.1;
       sets = ltb-true n.sets 256 q.1;
