@@ -107,3 +107,21 @@ bind_sets-append n [] us = let e : n + 0 ≡ n = omega arith in rw e refl
 bind_sets-append n (t ∷ ts) us =
     let e : n + suc (length ts) ≡ suc n + length ts = omega arith in
     ap (λ bs. record { var = record { sort = Set; number = n }; to = t } ∷ bs) (ap (λ k. bind_sets (suc n) ts ++ bind_sets k us) e ∙ bind_sets-append (suc n) ts us)
+
+pub all_ints_are : (made new : List IntBind) (ts : List Term) (number own m f : ℕ) → made ≡ bind_ints 0 ts → number ≡ length ts → own ≡ m
+    → new ≡ made ++ bind_ints number (map var_term (new_ints f own)) → new ≡ bind_ints 0 (ts ++ map var_term (new_ints f m))
+all_ints_are made new ts number own m f is count same added =
+    added
+    ∙ ap (λ bs. bs ++ bind_ints number (map var_term (new_ints f own))) is
+    ∙ ap (λ n. bind_ints 0 ts ++ bind_ints n (map var_term (new_ints f own))) count
+    ∙ ap (λ n. bind_ints 0 ts ++ bind_ints (length ts) (map var_term (new_ints f n))) same
+    ∙ bind_ints-append 0 ts (map var_term (new_ints f m))
+
+pub all_sets_are : (made new : List SetBind) (ts : List SetTerm) (number own m f : ℕ) → made ≡ bind_sets 0 ts → number ≡ length ts → own ≡ m
+    → new ≡ made ++ bind_sets number (map set_var (new_sets f own)) → new ≡ bind_sets 0 (ts ++ map set_var (new_sets f m))
+all_sets_are made new ts number own m f is count same added =
+    added
+    ∙ ap (λ bs. bs ++ bind_sets number (map set_var (new_sets f own))) is
+    ∙ ap (λ n. bind_sets 0 ts ++ bind_sets n (map set_var (new_sets f own))) count
+    ∙ ap (λ n. bind_sets 0 ts ++ bind_sets (length ts) (map set_var (new_sets f n))) same
+    ∙ bind_sets-append 0 ts (map set_var (new_sets f m))

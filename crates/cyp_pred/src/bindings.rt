@@ -185,7 +185,8 @@ fn count_sets(args: &[Arg]) -> u8
 /// How many of the clause's integer variables are no parameters.
 pub(crate) fn own_ints(args: &[Arg], clause: &Clause) -> u8
     requires { length args.now ≤ 8 }
-    ensures { result ≡ own_ints args.now clause.now }
+    ensures value { result ≡ own_ints args.now clause.now }
+    ensures fits { result + length (int_args args.now) < 256 }
 {
     clause.ints.saturating_sub(count_ints(args))
 }
@@ -193,7 +194,8 @@ pub(crate) fn own_ints(args: &[Arg], clause: &Clause) -> u8
 /// How many of the clause's set variables are no parameters.
 pub(crate) fn own_sets(args: &[Arg], clause: &Clause) -> u8
     requires { length args.now ≤ 8 }
-    ensures { result ≡ own_sets args.now clause.now }
+    ensures value { result ≡ own_sets args.now clause.now }
+    ensures fits { result + length (set_args args.now) < 256 }
 {
     clause.sets.saturating_sub(count_sets(args))
 }
