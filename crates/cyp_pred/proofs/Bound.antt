@@ -87,10 +87,10 @@ set_turn = numbered_turn (λ n vs. bind_sets n (set_args vs)) (λ v. length (set
 
 pub count_int_head : (a : Arg) (rest : List Arg) → length (int_args (a ∷ rest)) ≡ length (int_args (a ∷ [])) + length (int_args rest)
 count_int_head (IntArg t) rest = omega arith
-count_int_head (SetArg u) rest = refl
+count_int_head (SetArg u) rest = omega arith
 
 pub count_set_head : (a : Arg) (rest : List Arg) → length (set_args (a ∷ rest)) ≡ length (set_args (a ∷ [])) + length (set_args rest)
-count_set_head (IntArg t) rest = refl
+count_set_head (IntArg t) rest = omega arith
 count_set_head (SetArg u) rest = omega arith
 
 -- ---- arguments, then new variables
@@ -111,17 +111,19 @@ bind_sets-append n (t ∷ ts) us =
 pub all_ints_are : (made new : List IntBind) (ts : List Term) (number own m f : ℕ) → made ≡ bind_ints 0 ts → number ≡ length ts → own ≡ m
     → new ≡ made ++ bind_ints number (map var_term (new_ints f own)) → new ≡ bind_ints 0 (ts ++ map var_term (new_ints f m))
 all_ints_are made new ts number own m f is count same added =
+    let from_zero : number ≡ 0 + length ts = omega (arith, count) in
     added
     ∙ ap (λ bs. bs ++ bind_ints number (map var_term (new_ints f own))) is
-    ∙ ap (λ n. bind_ints 0 ts ++ bind_ints n (map var_term (new_ints f own))) count
-    ∙ ap (λ n. bind_ints 0 ts ++ bind_ints (length ts) (map var_term (new_ints f n))) same
+    ∙ ap (λ n. bind_ints 0 ts ++ bind_ints n (map var_term (new_ints f own))) from_zero
+    ∙ ap (λ n. bind_ints 0 ts ++ bind_ints (0 + length ts) (map var_term (new_ints f n))) same
     ∙ bind_ints-append 0 ts (map var_term (new_ints f m))
 
 pub all_sets_are : (made new : List SetBind) (ts : List SetTerm) (number own m f : ℕ) → made ≡ bind_sets 0 ts → number ≡ length ts → own ≡ m
     → new ≡ made ++ bind_sets number (map set_var (new_sets f own)) → new ≡ bind_sets 0 (ts ++ map set_var (new_sets f m))
 all_sets_are made new ts number own m f is count same added =
+    let from_zero : number ≡ 0 + length ts = omega (arith, count) in
     added
     ∙ ap (λ bs. bs ++ bind_sets number (map set_var (new_sets f own))) is
-    ∙ ap (λ n. bind_sets 0 ts ++ bind_sets n (map set_var (new_sets f own))) count
-    ∙ ap (λ n. bind_sets 0 ts ++ bind_sets (length ts) (map set_var (new_sets f n))) same
+    ∙ ap (λ n. bind_sets 0 ts ++ bind_sets n (map set_var (new_sets f own))) from_zero
+    ∙ ap (λ n. bind_sets 0 ts ++ bind_sets (0 + length ts) (map set_var (new_sets f n))) same
     ∙ bind_sets-append 0 ts (map set_var (new_sets f m))

@@ -17,8 +17,8 @@ use Rattle.cyp_term.specs.declared.term.Var.{Var}
 
 pub insts_head : (c : Chunk) (cs : List Chunk) → length (insts (c ∷ cs)) ≡ length (insts (c ∷ [])) + length (insts cs)
 insts_head (Inst i) cs = omega arith
-insts_head (Block b) cs = refl
-insts_head (Cell b) cs = refl
+insts_head (Block b) cs = omega arith
+insts_head (Cell b) cs = omega arith
 
 pub few_insts : (cs : List Chunk) → length (insts cs) ≤ length cs
 few_insts [] = omega arith
