@@ -28,7 +28,7 @@ pub wide_made : (i : InstOf) (next : Next) (c : Clause) → wide_unfolded (entry
 wide_made i next c =
     let more : List Lit = below_card i.card (count_from next.cards (length (insts c.heap.chunks))) in
     let lits : list_any wide_lit (c.lits ++ more) ≡ list_any wide_lit c.lits =
-        list_any-append wide_lit c.lits more ∙ ap (λ b. list_any wide_lit c.lits || b) (wide_below i.card (count_from next.cards (length (insts c.heap.chunks)))) ∙ or_none (list_any wide_lit c.lits) in
+    list_any-append wide_lit c.lits more ∙ ap (λ b. list_any wide_lit c.lits || b) (wide_below i.card (count_from next.cards (length (insts c.heap.chunks)))) ∙ or_none (list_any wide_lit c.lits) in
     ap (λ b. wide_lit c.guard || b || list_any wide_chunk (entry i next c).heap.chunks) lits
     ∙ ap (λ b. wide_lit c.guard || list_any wide_lit c.lits || b) (wide_with_tags i.card (1 + i.tag) next.cards c.heap.chunks)
 
