@@ -1,1 +1,3 @@
 pub mod Unfold
+pub mod Unfoldable
+pub mod Parts

@@ -1,0 +1,6 @@
+use Rattle.std.proofs.Common.{◌≡◌, ◌+◌, ◌++◌, ◌-◌}
+use Rattle.cyp_pred.proofs.Bound.{new_int_binds}
+use Rattle.cyp_pred.proofs.bindings.add_new_ints.Given as goal
+
+abbrev pub invariant-loop-k : goal.invariant-loop-k
+invariant-loop-k l = l.binds.items ++ new_int_binds (l.number + l.k) (l.first + l.k) (l.count - l.k) ≡ l.initial.binds.items ++ new_int_binds l.number l.first l.count
