@@ -2,5 +2,7 @@
 #![tactic(auto)]
 
 mod unfolded;
+mod unfolding;
 
 pub use unfolded::{Next, Unfolded};
+pub use unfolding::{unfold, unfold_one};
