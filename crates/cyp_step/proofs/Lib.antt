@@ -2,6 +2,7 @@ pub mod AllocLeft
 pub mod BlocksMade
 pub mod CellsTaken
 pub mod ChunkLists
+pub mod ClosedNodes
 pub mod EachRule
 mod Examples
 pub mod ExamplesDispose
@@ -14,14 +15,20 @@ pub mod FirstPlaces
 pub mod FlatFits
 pub mod FlatLeft
 pub mod FlatRaws
+pub mod FormedClauses
 pub mod FormsMade
 pub mod FrameLeft
 pub mod FramedPlaces
 pub mod GoalOfNode
 pub mod GoalWithin
 pub mod GoalsMade
+pub mod LastTuples
+pub mod LeftInCode
 pub mod NextNumbers
+pub mod NumberedVars
 pub mod OpenedLink
+pub mod OpenedNodes
+pub mod OuterVars
 pub mod Premises
 pub mod RawNodes
 pub mod Root
@@ -29,3 +36,4 @@ pub mod SameNodes
 pub mod TableRows
 pub mod TriedRules
 pub mod UnfoldedRaws
+pub mod WideEntries

@@ -6,7 +6,7 @@ pub mod Changes
 pub mod FlatRules
 pub mod FlatGoals
 pub mod Unfolding
-pub mod Opening
+pub mod UnfoldParts
 pub mod Mends
 pub mod Calling
 pub mod Step

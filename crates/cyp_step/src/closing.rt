@@ -3,20 +3,26 @@
 ghost use Rattle.std.specs.Prelude.{IfOk, OnOk, length, map, ◌++◌, ◌-◌, ◌<◌, ◌≡◌};
 ghost use Rattle.cyp_pred.specs.Unfold.{count_from, new_ints, new_sets};
 ghost use Rattle.cyp_step.specs.Leaving.{LeavesRaws};
-ghost use Rattle.cyp_step.specs.Opening.{closed_goal, own_vars};
+ghost use Rattle.cyp_step.specs.UnfoldParts.{closed_goal, own_vars};
 ghost use Rattle.cyp_step.specs.declared.rule.Rule.TheVariants.{ByClose};
 
+use crate::entries::{inst_in, one_entry};
 use crate::flat_rules::{Raws, left};
 use crate::next::next_of;
 use crate::placing::{put_all, without};
-use crate::unfolded::{inst_in, unfolded_by};
 use cyp_heap::{Goal, Node};
 use cyp_pred::{Next, Unfolded};
 use cyp_term::{Copied, List, NoMemory, Sort, Var};
 use std::alloc::Global;
 
 /// Adds the variables of the sort that are numbered from one number up to another.
-fn add_vars(alloc: Global, sort: Sort, from: u8, to: u8, vars: &mut List<Var>) -> Result<(), NoMemory>
+fn add_vars(
+    alloc: Global,
+    sort: Sort,
+    from: u8,
+    to: u8,
+    vars: &mut List<Var>,
+) -> Result<(), NoMemory>
     ensures { OnOk result (vars.new ≡ vars.old ++ map (λ j. record { sort = sort; number = j }) (count_from from (to - from))) }
 {
     for number in from..to {
@@ -65,7 +71,7 @@ pub(crate) fn close(alloc: Global, node: &Node, clause: u8) -> Result<Raws, NoMe
         return Ok(None);
     }
     let next = next_of(alloc, node)?;
-    let Some(entry) = unfolded_by(alloc, node.preds().get(), inst, next, clause)? else {
+    let Some(entry) = one_entry(alloc, node.preds().get(), inst, next, clause)? else {
         return Ok(None);
     };
     let closed = closed_goal(alloc, goal, next, entry)?;

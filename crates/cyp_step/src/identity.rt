@@ -2,7 +2,7 @@
 
 ghost use Rattle.std.specs.Prelude.{IfOk, OnOk, cond, filter, map, not, ◌≡◌};
 ghost use Rattle.cyp_heap.specs.Goals.{node_vars};
-ghost use Rattle.cyp_step.specs.Opening.{same_int, same_set};
+ghost use Rattle.cyp_step.specs.UnfoldParts.{same_int, same_set};
 ghost use Rattle.cyp_step.specs.Unfolding.{identity_map};
 ghost use Rattle.cyp_term.specs.Terms.{is_set_var, var_eq, var_in, with_new};
 

@@ -3,6 +3,7 @@
 
 mod allocating;
 mod closing;
+mod entries;
 mod existentials;
 mod flat_goals;
 mod flat_rules;
@@ -20,7 +21,6 @@ mod rule;
 mod showing;
 mod steps;
 mod testable;
-mod unfolded;
 
 pub use existentials::first_exist;
 pub use laws::{

@@ -3,7 +3,7 @@
 ghost use Rattle.std.specs.Prelude.{IfOk, IsTrue, OnOk, ◌++◌, ◌≡◌};
 ghost use Rattle.std.specs.List.{All};
 ghost use Rattle.cyp_heap.specs.Formed.{is_card_var};
-ghost use Rattle.cyp_step.specs.Opening.{HasCard, cards_in};
+ghost use Rattle.cyp_step.specs.UnfoldParts.{HasCard, cards_in};
 ghost use Rattle.cyp_step.specs.Unfolding.{card_terms, cards_of, last_tuple};
 
 use cyp_heap::{Chunk, Heap, InstOf, Link};

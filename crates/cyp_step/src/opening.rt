@@ -6,17 +6,17 @@ ghost use Rattle.std.specs.List.{All};
 ghost use Rattle.cyp_heap.specs.declared.chunk.Chunk.TheVariants.{Inst};
 ghost use Rattle.cyp_step.specs.Changes.{pre_of};
 ghost use Rattle.cyp_step.specs.Leaving.{LeavesRaws};
-ghost use Rattle.cyp_step.specs.Opening.{HasFits, has_room, opened_goal};
+ghost use Rattle.cyp_step.specs.UnfoldParts.{HasFits, has_room, opened_goal};
 ghost use Rattle.cyp_step.specs.Unfolding.{open_link, open_premise};
 ghost use Rattle.cyp_step.specs.declared.rule.Rule.TheVariants.{ByOpen};
 
+use crate::entries::{all_entries, inst_in};
 use crate::flat_goals::with_pre;
 use crate::flat_rules::Raws;
 use crate::identity::identity_map;
 use crate::measures::measure;
 use crate::placing::{put_all, without};
 use crate::testable::are_testable;
-use crate::unfolded::{inst_in, unfolded};
 use cyp_heap::{Goal, InstOf, Link, Node, Raw};
 use cyp_pred::Unfolded;
 use cyp_term::{Copied, List, NoMemory, Shared};
@@ -56,7 +56,10 @@ fn opened_goal(alloc: Global, goal: &Goal, place: u8, entry: Unfolded) -> Result
 {
     let others = without(alloc, &goal.pre, place)?;
     let Unfolded {
-        guard, lits, heap, ..
+        guard,
+        lits,
+        heap,
+        ..
     } = entry;
     let pre = put_all(alloc, others, heap.into_chunks())?;
     let mut opened = with_pre(alloc, goal, pre)?;
@@ -113,7 +116,7 @@ pub(crate) fn open(alloc: Global, node: &Node, place: u8) -> Result<Raws, NoMemo
     if !has_room(node, inst) {
         return Ok(None);
     }
-    let Some(entries) = unfolded(alloc, node, inst)? else {
+    let Some(entries) = all_entries(alloc, node, inst)? else {
         return Ok(None);
     };
     if !are_testable(node.goal(), entries.as_slice()) {

@@ -4,7 +4,7 @@ ghost use Rattle.std.specs.Prelude.{IfOk, IsTrue, option_map, slice_get, ◌<◌
 ghost use Rattle.cyp_heap.specs.Formed.{inst_fits};
 ghost use Rattle.cyp_pred.specs.Unfold.{unfold_inst};
 ghost use Rattle.cyp_step.specs.Changes.{next_of};
-ghost use Rattle.cyp_step.specs.Opening.{AreUnfolded, IsUnfolded, inst_in};
+ghost use Rattle.cyp_step.specs.UnfoldParts.{AreUnfolded, IsUnfolded, inst_in};
 
 use crate::next::next_of;
 use cyp_heap::{Chunk, InstOf, Node, Preds};
@@ -23,7 +23,7 @@ pub(crate) fn inst_in(chunks: &[Chunk], place: usize) -> Option<&InstOf>
 }
 
 /// One entry for each clause, or `None` where an offset passes 2^32.
-pub(crate) fn unfolded(
+pub(crate) fn all_entries(
     alloc: Global,
     node: &Node,
     inst: &InstOf,
@@ -41,7 +41,7 @@ pub(crate) fn unfolded(
 }
 
 /// The entry of one clause, or `None` where there is none or an offset passes 2^32.
-pub(crate) fn unfolded_by(
+pub(crate) fn one_entry(
     alloc: Global,
     preds: &Preds,
     inst: &InstOf,
