@@ -1,6 +1,7 @@
 pub mod AllocLeft
 pub mod BlocksMade
 pub mod CellsTaken
+pub mod CanUnfold
 pub mod ChunkLists
 pub mod ClosedNodes
 pub mod EachRule

@@ -71,9 +71,10 @@ pub(crate) fn close(alloc: Global, node: &Node, clause: u8) -> Result<Raws, NoMe
         return Ok(None);
     }
     let next = next_of(alloc, node)?;
-    let Some(entry) = one_entry(alloc, node.preds().get(), inst, next, clause)? else {
+    let Some(entry) = one_entry(alloc, node, inst, next, clause)? else {
         return Ok(None);
     };
     let closed = closed_goal(alloc, goal, next, entry)?;
+    let _formed = node.preds().get().list();
     left(alloc, node, Some(closed))
 }

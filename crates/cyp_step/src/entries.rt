@@ -1,13 +1,12 @@
-//! What an instance of a node unfolds to, with variables that are new to the node.
+//! What an instance of a node unfolds to.
 
 ghost use Rattle.std.specs.Prelude.{IfOk, IsTrue, option_map, slice_get, ◌<◌, ◌≡◌, ◌≤◌};
 ghost use Rattle.cyp_heap.specs.Formed.{inst_fits};
 ghost use Rattle.cyp_pred.specs.Unfold.{unfold_inst};
-ghost use Rattle.cyp_step.specs.Changes.{next_of};
+ghost use Rattle.cyp_pred.specs.Unfoldable.{card_fits};
 ghost use Rattle.cyp_step.specs.UnfoldParts.{AreUnfolded, IsUnfolded, inst_in};
 
-use crate::next::next_of;
-use cyp_heap::{Chunk, InstOf, Node, Preds};
+use cyp_heap::{Chunk, InstOf, Node};
 use cyp_pred::{Next, Unfolded, unfold, unfold_one};
 use cyp_term::{Fail, List, NoMemory, TooWide};
 use std::alloc::Global;
@@ -27,34 +26,43 @@ pub(crate) fn all_entries(
     alloc: Global,
     node: &Node,
     inst: &InstOf,
+    next: Next,
 ) -> Result<Option<List<Unfolded>>, NoMemory>
     requires fits { IsTrue (inst_fits node.now.preds inst.now) }
+    requires card { IsTrue (card_fits inst.now.card) }
     requires tag { inst.now.tag < 255 }
-    ensures { IfOk result (λ us. AreUnfolded (unfold_inst node.now.preds inst.now (next_of node.now)) us) }
+    requires ints { next.ints ≤ 32 }
+    requires cards { next.cards ≤ 32 }
+    requires sets { next.sets ≤ 32 }
+    ensures { IfOk result (λ us. AreUnfolded (unfold_inst node.now.preds inst.now next) us) }
 {
-    let next = next_of(alloc, node)?;
-    match unfold(alloc, node.preds().get(), inst, next) {
+    let preds = node.preds().get();
+    let _list = preds.list();
+    match unfold(alloc, preds, inst, next) {
         Ok(entries) => Ok(Some(entries)),
         Err(Fail::Named(TooWide)) => Ok(None),
         Err(Fail::NoMemory) => Err(NoMemory),
     }
 }
 
-/// The entry of one clause, or `None` where there is none or an offset passes 2^32.
+/// The entry of one clause, or `None` where there is none or an offset of it passes 2^32.
 pub(crate) fn one_entry(
     alloc: Global,
-    preds: &Preds,
+    node: &Node,
     inst: &InstOf,
     next: Next,
     clause: u8,
 ) -> Result<Option<Unfolded>, NoMemory>
-    requires fits { IsTrue (inst_fits preds.now inst.now) }
+    requires fits { IsTrue (inst_fits node.now.preds inst.now) }
+    requires card { IsTrue (card_fits inst.now.card) }
     requires tag { inst.now.tag < 255 }
     requires ints { next.ints ≤ 32 }
     requires cards { next.cards ≤ 32 }
     requires sets { next.sets ≤ 32 }
-    ensures { IfOk result (λ u. IsUnfolded (slice_get (unfold_inst preds.now inst.now next) clause) u) }
+    ensures { IfOk result (λ u. IsUnfolded (slice_get (unfold_inst node.now.preds inst.now next) clause) u) }
 {
+    let preds = node.preds().get();
+    let _list = preds.list();
     match unfold_one(alloc, preds, inst, next, clause) {
         Ok(entry) => Ok(entry),
         Err(Fail::Named(TooWide)) => Ok(None),

@@ -15,6 +15,7 @@ use crate::flat_goals::with_pre;
 use crate::flat_rules::Raws;
 use crate::identity::identity_map;
 use crate::measures::measure;
+use crate::next::next_of;
 use crate::placing::{put_all, without};
 use crate::testable::are_testable;
 use cyp_heap::{Goal, InstOf, Link, Node, Raw};
@@ -116,12 +117,14 @@ pub(crate) fn open(alloc: Global, node: &Node, place: u8) -> Result<Raws, NoMemo
     if !has_room(node, inst) {
         return Ok(None);
     }
-    let Some(entries) = all_entries(alloc, node, inst)? else {
+    let next = next_of(alloc, node)?;
+    let Some(entries) = all_entries(alloc, node, inst, next)? else {
         return Ok(None);
     };
     if !are_testable(node.goal(), entries.as_slice()) {
         return Ok(None);
     }
     let link = open_link(alloc, node, place, inst)?;
+    let _formed = node.preds().get().list();
     Ok(Some(open_premises(alloc, node, place, &link, entries)?))
 }
