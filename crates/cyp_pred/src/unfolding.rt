@@ -14,7 +14,7 @@ use std::alloc::Global;
 /// One entry for each clause of the instance's predicate, in order. Each numbers its own variables
 /// from `next` on. It is `TooWide` exactly where an offset of an entry passes 2^32 in size.
 pub fn unfold(
-    alloc: Global,
+    _alloc: Global,
     preds: &Preds,
     inst: &InstOf,
     next: Next,
@@ -22,14 +22,13 @@ pub fn unfold(
     requires { CanUnfold preds.now inst.now next }
     ensures { GivesUnless (list_any wide_unfolded (unfold_inst preds.now inst.now next)) (unfold_inst preds.now inst.now next) result }
 {
-    let _ = (alloc, preds, inst, next);
     Err(Fail::NoMemory)
 }
 
 /// The entry for the clause at this place alone, or `None` where the predicate has no such clause. It
 /// is `TooWide` exactly where an offset of that entry passes 2^32 in size.
 pub fn unfold_one(
-    alloc: Global,
+    _alloc: Global,
     preds: &Preds,
     inst: &InstOf,
     next: Next,
@@ -38,6 +37,5 @@ pub fn unfold_one(
     requires { CanUnfold preds.now inst.now next }
     ensures { GivesUnless (wide_entry (slice_get (unfold_inst preds.now inst.now next) clause)) (slice_get (unfold_inst preds.now inst.now next) clause) result }
 {
-    let _ = (alloc, preds, inst, next, clause);
     Err(Fail::NoMemory)
 }

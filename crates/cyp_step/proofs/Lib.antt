@@ -3,6 +3,7 @@ pub mod BlocksMade
 pub mod CellsTaken
 pub mod CanUnfold
 pub mod ChunkLists
+pub mod ChunksPut
 pub mod ClosedNodes
 pub mod EachRule
 mod Examples
