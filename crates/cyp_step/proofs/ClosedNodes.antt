@@ -1,5 +1,5 @@
 -- What Close leaves to do at a node, test by test.
-use Rattle.std.proofs.Common.{◌≡◌, ◌∙◌, ◌∷◌, ℕ, [], Bool, IfSome, IsTrue, List, None, Option, Some, ap, false, nat_lt, option_map, refl, slice_get, subst, sym, true}
+use Rattle.std.proofs.Common.{◌≡◌, ◌∙◌, ◌∷◌, ℕ, [], Bool, IfSome, IsTrue, List, None, Option, Some, ap, false, is_none, nat_lt, option_map, refl, slice_get, subst, sym, true}
 use Rattle.std.specs.List.{All, list_any}
 use Rattle.std.proofs.lemmas.Bool.{or_left}
 use Rattle.std.proofs.lemmas.Option.{none-some}
@@ -48,10 +48,10 @@ module _ (n : Node) (c : ℕ) where
   closed u = record n { goal = closed_goal n.goal (next_of n) u }
 
   module _ (j : InstOf) (at : slice_get (post_of n) 0 ≡ Some (Inst j)) where
-    abbrev chosen : Option Unfolded
+    abbrev pub chosen : Option Unfolded
     chosen = slice_get (unfold_inst n.preds j (next_of n)) c
 
-    abbrev left_by : Option Unfolded → Raws
+    abbrev pub left_by : Option Unfolded → Raws
     left_by o = option_map (λ (u : Unfolded). closed u ∷ []) o
 
     raws_at : raws n (ByClose c) ≡ where_true (nat_lt j.tag 255) (left_by chosen)
@@ -79,6 +79,9 @@ module _ (n : Node) (c : ℕ) where
     module _ (k : KeepsNode n) where
       pub focus_fits : IsTrue (inst_fits n.preds j)
       focus_fits = (subst (λ (o : Option Chunk). IfSome o (FitsPost n.preds)) at (Every-slice_get (FitsPost n.preds) (post_of n) 0 (its_sides n (keeps_node n k)).post)).0
+
+      pub focus_card : IsTrue (is_none j.card)
+      focus_card = (subst (λ (o : Option Chunk). IfSome o (FitsPost n.preds)) at (Every-slice_get (FitsPost n.preds) (post_of n) 0 (its_sides n (keeps_node n k)).post)).1
 
       pub closed_fits : IsFormedPreds n.preds → nat_lt j.tag 255 ≡ true → (u : Unfolded) → chosen ≡ Some u → IsTrue (insts_fit n.preds (closed u).goal)
       closed_fits f t u e =

@@ -1,5 +1,5 @@
 -- What a rule leaves to do in code, against the premises of the rule.
-use Rattle.std.proofs.Common.{◌≡◌, ◌∙◌, ◌∷◌, [], List, None, Option, Some, ap, refl, subst, sym, true}
+use Rattle.std.proofs.Common.{◌≡◌, ◌∙◌, ◌∷◌, ℕ, [], Err, IfOk, List, None, Ok, Option, Result, Some, ap, refl, subst, sym, true}
 use Rattle.std.specs.List.{list_any}
 use Rattle.std.specs.Option.{option_and_then}
 use Rattle.std.proofs.lemmas.Bool.{false≢true}
@@ -11,6 +11,7 @@ use Rattle.cyp_step.specs.Changes.{Raws}
 use Rattle.cyp_step.specs.Leaving.{LeavesRaws}
 use Rattle.cyp_step.specs.RuleKinds.{IsFlatRule}
 use Rattle.cyp_step.specs.Step.{all_normal, raws, renamed_premises}
+use Rattle.cyp_step.specs.declared.rule.CallBy.{CallBy}
 use Rattle.cyp_step.specs.declared.rule.Rule.{Rule}
 use Rattle.cyp_step.specs.declared.rule.Rule.TheVariants.{ByAlloc, ByCall, ByClose, ByEmp, ByFrame, ByFree, ByInconsistent, ByOpen, ByPick, ByRead, ByWrite}
 
@@ -41,8 +42,19 @@ module _ (n : Node) (r : Rule) where
   pub forms_of : (o : Raws) (ms : List Node) → o ≡ Some ms → LeavesRaws n r o → all_normal ms ≡ renamed_premises n r
   forms_of o ms e h = sym (ap (option_and_then all_normal) (subst (λ q. LeavesRaws n r q) e h))
 
+  pub raws_are : (o : Raws) (ms : List Node) → o ≡ Some ms → LeavesRaws n r o → raws n r ≡ Some ms
+  raws_are o ms e h = subst (λ q. LeavesRaws n r q) e h
+
+  pub none_are : (o : Raws) → o ≡ None → LeavesRaws n r o → None ≡ renamed_premises n r
+  none_are o e h = sym (subst (λ q. LeavesRaws n r q) e h)
+
+  -- the same of a call's answer
+  pub each_left : {E : Type 0} (x : Result Raws E) → IfOk x (λ o. o ≡ raws n r) → IfOk x (λ o. LeavesRaws n r o)
+  each_left (Ok o) h = left_exactly o h
+  each_left (Err e) h = tt
+
 -- a rule that neither calls nor unfolds
-pub flat_otherwise : (r : Rule) → ((c : _) → r ≡ ByCall c → ⊥) → ((i : _) → r ≡ ByOpen i → ⊥) → ((i : _) → r ≡ ByClose i → ⊥) → IsFlatRule r
+pub flat_otherwise : (r : Rule) → ((c : CallBy) → r ≡ ByCall c → ⊥) → ((i : ℕ) → r ≡ ByOpen i → ⊥) → ((i : ℕ) → r ≡ ByClose i → ⊥) → IsFlatRule r
 flat_otherwise (ByCall c) f g h = f c refl
 flat_otherwise (ByOpen i) f g h = g i refl
 flat_otherwise (ByClose i) f g h = h i refl

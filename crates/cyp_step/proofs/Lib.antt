@@ -4,6 +4,7 @@ pub mod CellsTaken
 pub mod CanUnfold
 pub mod ChunkLists
 pub mod ChunksPut
+pub mod CloseSteps
 pub mod ClosedNodes
 pub mod EachRule
 mod Examples
@@ -28,6 +29,7 @@ pub mod LastTuples
 pub mod LeftInCode
 pub mod NextNumbers
 pub mod NumberedVars
+pub mod OpenSteps
 pub mod OpenedLink
 pub mod OpenedNodes
 pub mod OuterVars

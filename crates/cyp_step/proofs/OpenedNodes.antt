@@ -58,13 +58,13 @@ module _ (n : Node) (i : ℕ) where
   not_opened e = nothing_left n (ByOpen i) (no_inst n i (slice_get (pre_of n) i) e)
 
   module _ (j : InstOf) (at : slice_get (pre_of n) i ≡ Some (Inst j)) where
-    abbrev entries : List Unfolded
+    abbrev pub entries : List Unfolded
     entries = unfold_inst n.preds j (next_of n)
 
-    abbrev tested : Bool
+    abbrev pub tested : Bool
     tested = list_all (λ (u : Unfolded). is_testable n.goal u.guard) entries
 
-    abbrev left : List Node
+    abbrev pub left : List Node
     left = map (open_premise n i (open_link n i j)) entries
 
     raws_under : (b : Bool) → (has_room n j && tested) ≡ b → raws n (ByOpen i) ≡ where_true b (Some left)

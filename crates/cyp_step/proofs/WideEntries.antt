@@ -63,7 +63,7 @@ module _ (a b c d : Bool) where
   fourth e = or_right (a || b || c) d e
 
 module _ (g : Goal) (u : Unfolded) (e : wide_unfolded u ≡ true) where
-  abbrev lits : List Lit
+  abbrev pub lits : List Lit
   lits = u.guard ∷ u.lits
 
   wide_opened : (i : ℕ) → wide_goal (opened_goal g i u) ≡ true

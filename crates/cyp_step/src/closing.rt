@@ -1,7 +1,7 @@
 //! What Close leaves to do: the focus, an instance of the postcondition, is folded by one clause.
 
-ghost use Rattle.std.specs.Prelude.{IfOk, OnOk, length, map, ◌++◌, ◌-◌, ◌<◌, ◌≡◌};
-ghost use Rattle.cyp_pred.specs.Unfold.{count_from, new_ints, new_sets};
+ghost use Rattle.std.specs.Prelude.{IfOk, OnOk, length, map, nat_lt, ◌++◌, ◌-◌, ◌<◌, ◌≡◌};
+ghost use Rattle.cyp_pred.specs.Unfold.{count_from};
 ghost use Rattle.cyp_step.specs.Leaving.{LeavesRaws};
 ghost use Rattle.cyp_step.specs.UnfoldParts.{closed_goal, own_vars};
 ghost use Rattle.cyp_step.specs.declared.rule.Rule.TheVariants.{ByClose};
@@ -10,7 +10,7 @@ use crate::entries::{inst_in, one_entry};
 use crate::flat_rules::{Raws, left};
 use crate::next::next_of;
 use crate::placing::{put_all, without};
-use cyp_heap::{Goal, Node};
+use cyp_heap::{Goal, InstOf, Node};
 use cyp_pred::{Next, Unfolded};
 use cyp_term::{Copied, List, NoMemory, Sort, Var};
 use std::alloc::Global;
@@ -59,6 +59,13 @@ fn closed_goal(alloc: Global, goal: &Goal, next: Next, entry: Unfolded) -> Resul
     Ok(closed)
 }
 
+/// Whether an instance may have a greater tag than this one.
+fn can_be_raised(inst: &InstOf) -> bool
+    ensures { result ≡ nat_lt inst.now.tag 255 }
+{
+    inst.tag < u8::MAX
+}
+
 /// What ByClose leaves to do.
 pub(crate) fn close(alloc: Global, node: &Node, clause: u8) -> Result<Raws, NoMemory>
     ensures { IfOk result (λ r. LeavesRaws node.now (ByClose clause) r) }
@@ -67,7 +74,7 @@ pub(crate) fn close(alloc: Global, node: &Node, clause: u8) -> Result<Raws, NoMe
     let Some(inst) = inst_in(goal.post.chunks(), 0) else {
         return Ok(None);
     };
-    if inst.tag == u8::MAX {
+    if !can_be_raised(inst) {
         return Ok(None);
     }
     let next = next_of(alloc, node)?;
