@@ -1,8 +1,8 @@
 //! The rows that unfold an instance of the precondition.
 
-ghost use Rattle.std.specs.Prelude.{IfOk, length, map, ◌≡◌, ◌≤◌};
+ghost use Rattle.std.specs.Prelude.{IfOk, OnOk, length, map, ◌++◌, ◌≡◌, ◌≤◌};
 ghost use Rattle.cyp_step.specs.declared.rule.Rule.TheVariants.{ByOpen};
-ghost use Rattle.cyp_unfold.specs.OpenPlaces.{is_openable};
+ghost use Rattle.cyp_unfold.specs.OpenPlaces.{is_openable, opening_at};
 ghost use Rattle.cyp_unfold.specs.UnfoldRows.{open_rows, openable};
 
 use cyp_heap::{Chunk, Node};
@@ -20,6 +20,17 @@ fn is_openable(limit: u8, chunk: &Chunk) -> bool
     }
 }
 
+/// Adds the rule that opens the chunk at the place, where it is an instance whose tag is below the
+/// limit.
+fn add_opening(limit: u8, place: u8, chunk: &Chunk, rules: &mut Vec<Rule>) -> Result<(), NoMemory>
+    ensures { OnOk result (rules.new.items ≡ rules.old.items ++ opening_at limit place chunk.now) }
+{
+    if is_openable(limit, chunk) {
+        rules.push(Rule::ByOpen(place))?;
+    }
+    Ok(())
+}
+
 /// The rules that open an instance whose tag is below the limit, in the order of the places.
 fn openings(alloc: Global, limit: u8, chunks: &[Chunk]) -> Result<List<Rule>, NoMemory>
     requires { length chunks.now ≤ 16 }
@@ -27,9 +38,7 @@ fn openings(alloc: Global, limit: u8, chunks: &[Chunk]) -> Result<List<Rule>, No
 {
     let mut rules = Vec::new(alloc);
     for place in 0..chunks.len() {
-        if is_openable(limit, &chunks[place]) {
-            rules.push(Rule::ByOpen(place as u8))?;
-        }
+        add_opening(limit, place as u8, &chunks[place], &mut rules)?;
     }
     Ok(List::from_vec(rules))
 }
