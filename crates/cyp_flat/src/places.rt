@@ -2,7 +2,7 @@
 
 ghost use Rattle.std.specs.Prelude.{IfOk, OnOk, length, map, option_to_list, ◌++◌, ◌≡◌, ◌≤◌};
 ghost use Rattle.cyp_flat.specs.ChunkRules.{rule_at};
-ghost use Rattle.cyp_step.specs.RuleKinds.{IsFlatRule};
+ghost use Rattle.cyp_step.specs.RuleKinds.{CallsNothing};
 ghost use Rattle.cyp_step.specs.Rows.{least_allowed, pre_places, rows};
 
 use cyp_heap::Node;
@@ -23,7 +23,7 @@ impl ChunkRule {
     /// The rule at the chunk with this place.
     fn at(self, place: u8) -> Rule
         ensures rule { result ≡ rule_at self place }
-        ensures flat { IsFlatRule result }
+        ensures kind { CallsNothing result }
     {
         match self {
             ChunkRule::Read => Rule::ByRead(place),

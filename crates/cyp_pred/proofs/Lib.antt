@@ -4,3 +4,4 @@ pub mod LowNumbers
 pub mod Ready
 pub mod Tagged
 mod Examples
+pub mod LowNumbers

@@ -32,7 +32,7 @@ put_cells cs t j (v ∷ vs) =
     let c : CellAt = record { at = plus t (pos j); content = v } in
     ap (λ ds. put_all ds (new_cells t (suc j) vs)) (put_cell cs c) ∙ put_cells (cs ++ Cell c ∷ []) t (suc j) vs ∙ append_assoc cs (Cell c ∷ []) (new_cells t (suc j) vs)
 
-all_in_order : (cs ds : List Chunk) → IsTrue (in_order cs) → IsTrue (in_order (put_all cs ds))
+pub all_in_order : (cs ds : List Chunk) → IsTrue (in_order cs) → IsTrue (in_order (put_all cs ds))
 all_in_order cs [] h = h
 all_in_order cs (d ∷ ds) h = all_in_order (put cs d) ds (put_in_order cs d h)
 

@@ -28,7 +28,7 @@ module _ {X : Type 0} (eq : X → X → Bool) (decides : (x y : X) → Decides (
   turn y us ws true = refl
   turn y us ws false = refl
 
-  filter_all_new : (us xs : List X) → filter p (with_all_new eq us xs) ≡ with_all_new eq (filter p us) (filter p xs)
+  pub filter_all_new : (us xs : List X) → filter p (with_all_new eq us xs) ≡ with_all_new eq (filter p us) (filter p xs)
   filter_all_new us [] = refl
   filter_all_new us (x ∷ xs) =
       filter_all_new (with_new eq us x) xs ∙ ap (λ ws. with_all_new eq ws (filter p xs)) (filter_new x us (p x) (list_any (eq x) us) refl refl)

@@ -1,7 +1,11 @@
 pub mod AllocLeft
 pub mod BlocksMade
 pub mod CellsTaken
+pub mod CanUnfold
 pub mod ChunkLists
+pub mod ChunksPut
+pub mod CloseSteps
+pub mod ClosedNodes
 pub mod EachRule
 mod Examples
 pub mod ExamplesDispose
@@ -14,14 +18,21 @@ pub mod FirstPlaces
 pub mod FlatFits
 pub mod FlatLeft
 pub mod FlatRaws
+pub mod FormedClauses
 pub mod FormsMade
 pub mod FrameLeft
 pub mod FramedPlaces
 pub mod GoalOfNode
 pub mod GoalWithin
 pub mod GoalsMade
+pub mod LastTuples
+pub mod LeftInCode
 pub mod NextNumbers
+pub mod NumberedVars
+pub mod OpenSteps
 pub mod OpenedLink
+pub mod OpenedNodes
+pub mod OuterVars
 pub mod Premises
 pub mod RawNodes
 pub mod Root
@@ -29,3 +40,4 @@ pub mod SameNodes
 pub mod TableRows
 pub mod TriedRules
 pub mod UnfoldedRaws
+pub mod WideEntries

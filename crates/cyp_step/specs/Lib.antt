@@ -6,9 +6,11 @@ pub mod Changes
 pub mod FlatRules
 pub mod FlatGoals
 pub mod Unfolding
+pub mod UnfoldParts
 pub mod Mends
 pub mod Calling
 pub mod Step
+pub mod Leaving
 pub mod Rows
 pub mod Trying
 pub mod Nodes

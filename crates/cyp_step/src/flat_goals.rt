@@ -325,7 +325,8 @@ fn is_universal(alloc: Global, goal: &Goal, sort: Sort, var: Var) -> Result<bool
     Ok(is_among(var, vars.as_slice()))
 }
 
-fn set_of(alloc: Global, var: Var) -> Result<SetTerm, NoMemory>
+/// The set of the variable alone.
+pub(crate) fn set_of(alloc: Global, var: Var) -> Result<SetTerm, NoMemory>
     requires { var.sort ≡ Set }
     ensures { IfOk result (λ u. u ≡ set_var var) }
 {

@@ -2,18 +2,25 @@
 #![tactic(auto)]
 
 mod allocating;
+mod closing;
+mod entries;
 mod existentials;
 mod flat_goals;
 mod flat_rules;
 mod framing;
+mod identity;
 mod laws;
+mod measures;
 mod narrow;
 mod next;
 mod occurs;
+mod opening;
+mod placing;
 mod rows;
 mod rule;
 mod showing;
 mod steps;
+mod testable;
 
 pub use existentials::first_exist;
 pub use laws::{

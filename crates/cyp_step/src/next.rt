@@ -38,15 +38,22 @@ fn above(vars: &[Var], sort: Sort) -> u8
     next
 }
 
+/// The variables of the node, with repeats.
+pub(crate) fn vars_of_node(alloc: Global, node: &Node) -> Result<Vec<Var>, NoMemory>
+    ensures { IfOk result (λ vs. vs.items ≡ goal_vars node.now.goal ++ flat_map (λ k. flat_map term_vars k.tuple ++ image_vars k.map) node.now.links) }
+{
+    let mut vars = goal_vars(alloc, node.goal())?;
+    add_all(node.links().as_slice(), &mut vars)?;
+    Ok(vars)
+}
+
 /// The variables of the node, then its existentials, some of which may stand nowhere.
 fn vars_and_exist(alloc: Global, node: &Node) -> Result<Vec<Var>, NoMemory>
     ensures vars { IfOk result (λ vs. vs.items ≡ goal_vars node.now.goal ++ flat_map (λ k. flat_map term_vars k.tuple ++ image_vars k.map) node.now.links ++ node.now.goal.exist) }
     ensures low { IfOk result (λ vs. IsTrue (list_all (λ v. nat_lt v.number 32) vs.items)) }
 {
-    let goal = node.goal();
-    let mut vars = goal_vars(alloc, goal)?;
-    add_all(node.links().as_slice(), &mut vars)?;
-    vars.extend_from_slice(goal.exist.as_slice())?;
+    let mut vars = vars_of_node(alloc, node)?;
+    vars.extend_from_slice(node.goal().exist.as_slice())?;
     Ok(vars)
 }
 
@@ -54,6 +61,8 @@ fn vars_and_exist(alloc: Global, node: &Node) -> Result<Vec<Var>, NoMemory>
 pub(crate) fn next_of(alloc: Global, node: &Node) -> Result<Next, NoMemory>
     ensures next { IfOk result (λ next. next ≡ next_of node.now) }
     ensures low { IfOk result (λ next. next.ints ≤ 32) }
+    ensures low_cards { IfOk result (λ next. next.cards ≤ 32) }
+    ensures low_sets { IfOk result (λ next. next.sets ≤ 32) }
 {
     let vars = vars_and_exist(alloc, node)?;
     let vars = vars.as_slice();

@@ -5,19 +5,22 @@ ghost use Rattle.std.specs.List.{All};
 ghost use Rattle.cyp_goal.specs.Normal.{normal};
 ghost use Rattle.cyp_heap.specs.Formed.{IsWellLinked};
 ghost use Rattle.cyp_heap.specs.Goals.{wide_node};
-ghost use Rattle.cyp_step.specs.RuleKinds.{IsFlatRule};
+ghost use Rattle.cyp_step.specs.Leaving.{LeavesRaws};
+ghost use Rattle.cyp_step.specs.RuleKinds.{CallsNothing, IsFlatRule};
 ghost use Rattle.cyp_step.specs.Step.{all_normal, nodes_of, premises as the_premises, raws, renamed_premises};
 
+use crate::closing::close;
 use crate::flat_rules::{Raws, allocate, emp, frame, free, inconsistent, pick, read, write};
 use crate::narrow::Narrow;
+use crate::opening::open;
 use crate::rule::Rule;
 use cyp_goal::{Renamed, TooLarge, normal};
 use cyp_heap::{Node, Raw};
 use cyp_term::{Exact, Fail, List, NoMemory, Shared};
 use std::alloc::Global;
 
-/// What the rule leaves to do.
-fn raws(alloc: Global, node: &Node, rule: &Rule) -> Result<Raws, NoMemory>
+/// What a rule leaves to do that unfolds and calls nothing.
+fn flat_raws(alloc: Global, node: &Node, rule: &Rule) -> Result<Raws, NoMemory>
     requires { IsFlatRule rule.now }
     ensures { IfOk result (λ r. r ≡ raws node.now rule.now) }
 {
@@ -31,6 +34,19 @@ fn raws(alloc: Global, node: &Node, rule: &Rule) -> Result<Raws, NoMemory>
         Rule::ByAlloc => allocate(alloc, node),
         Rule::ByPick(var) => pick(alloc, node, *var),
         Rule::ByCall(_) | Rule::ByOpen(_) | Rule::ByClose(_) => unreachable!(),
+    }
+}
+
+/// What the rule leaves to do.
+fn raws(alloc: Global, node: &Node, rule: &Rule) -> Result<Raws, NoMemory>
+    requires { CallsNothing rule.now }
+    ensures { IfOk result (λ r. LeavesRaws node.now rule.now r) }
+{
+    match rule {
+        Rule::ByCall(_) => unreachable!(),
+        Rule::ByOpen(place) => open(alloc, node, *place),
+        Rule::ByClose(clause) => close(alloc, node, *clause),
+        _ => flat_raws(alloc, node, rule),
     }
 }
 
@@ -64,13 +80,13 @@ fn normal_forms(alloc: Global, raws: List<Raw>) -> Result<Option<List<Renamed>>,
 }
 
 /// The premises of the rule at the node, with what their program variables were called before they
-/// were numbered anew. It is `None` where the rule isn't allowed. The rule unfolds and calls nothing.
+/// were numbered anew. It is `None` where the rule isn't allowed. The rule calls nothing.
 pub fn premises_of(
     alloc: Global,
     node: &Node,
     rule: &Rule,
 ) -> Result<Option<List<Renamed>>, NoMemory>
-    requires { IsFlatRule rule.now }
+    requires { CallsNothing rule.now }
     ensures { IfOk result (λ r. r ≡ renamed_premises node.now rule.now) }
 {
     let _links = node.links();
@@ -107,7 +123,7 @@ fn are_nodes_of(forms: &[Renamed], nodes: &[Shared<Node>]) -> bool
     true
 }
 
-/// Whether the rule is allowed at the node and leaves these premises. The rule unfolds and calls
+/// Whether the rule is allowed at the node and leaves these premises. The rule calls
 /// nothing.
 pub fn is_step(
     alloc: Global,
@@ -115,7 +131,7 @@ pub fn is_step(
     rule: &Rule,
     premises: &[Shared<Node>],
 ) -> Result<bool, NoMemory>
-    requires { IsFlatRule rule.now }
+    requires { CallsNothing rule.now }
     ensures { IfOk result (λ b. IsTrue b ↔ (the_premises node.now rule.now ≡ Some premises.now)) }
 {
     match premises_of(alloc, node, rule)? {

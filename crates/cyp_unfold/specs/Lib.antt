@@ -1,1 +1,2 @@
+pub mod OpenPlaces
 pub mod UnfoldRows

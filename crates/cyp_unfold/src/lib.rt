@@ -1,2 +1,8 @@
-//! The rows of Open and Close: definitions.
+//! The rows of Open and Close.
 #![tactic(auto)]
+
+mod closes;
+mod opens;
+
+pub use closes::close_rows;
+pub use opens::open_rows;

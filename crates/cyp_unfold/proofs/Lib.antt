@@ -1,0 +1,2 @@
+pub mod ClauseTurns
+pub mod OpenTurns
