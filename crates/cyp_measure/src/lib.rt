@@ -1,2 +1,6 @@
-//! The measure of a call: definitions.
+//! Measures of calls: definitions.
 #![tactic(auto)]
+
+mod decrease;
+
+pub use decrease::decreases;

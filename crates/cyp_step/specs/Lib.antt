@@ -8,7 +8,9 @@ pub mod FlatGoals
 pub mod Unfolding
 pub mod Mends
 pub mod Calling
+pub mod Called
 pub mod Step
+pub mod Leaving
 pub mod Rows
 pub mod Trying
 pub mod Nodes

@@ -19,7 +19,7 @@ use cyp_term::{Copied, List, Lit, NoMemory, SetTerm, Sort, Term, Var};
 use std::alloc::Global;
 
 /// The cell at the place.
-fn cell_in(chunks: &[Chunk], place: usize) -> Option<CellAt>
+pub(crate) fn cell_in(chunks: &[Chunk], place: usize) -> Option<CellAt>
     ensures { result ≡ cell_in (slice_get chunks.now place) }
 {
     match chunks.get(place) {
@@ -325,7 +325,7 @@ fn is_universal(alloc: Global, goal: &Goal, sort: Sort, var: Var) -> Result<bool
     Ok(is_among(var, vars.as_slice()))
 }
 
-fn set_of(alloc: Global, var: Var) -> Result<SetTerm, NoMemory>
+pub(crate) fn set_of(alloc: Global, var: Var) -> Result<SetTerm, NoMemory>
     requires { var.sort ≡ Set }
     ensures { IfOk result (λ u. u ≡ set_var var) }
 {

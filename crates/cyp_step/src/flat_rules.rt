@@ -20,7 +20,7 @@ use std::alloc::Global;
 pub(crate) type Raws = Option<List<Raw>>;
 
 /// The node with the goal, where there is one.
-fn left(alloc: Global, node: &Node, goal: Option<Goal>) -> Result<Raws, NoMemory>
+pub(crate) fn left(alloc: Global, node: &Node, goal: Option<Goal>) -> Result<Raws, NoMemory>
     requires { ForSome goal (λ g. IsTrue (insts_fit node.now.preds g)) }
     ensures { IfOk result (λ r. r ≡ option_map (λ g. record node.now { goal = g } ∷ []) goal) }
 {

@@ -2,14 +2,20 @@
 #![tactic(auto)]
 
 mod allocating;
+mod applying;
+mod callable;
+mod called;
+mod calling;
 mod existentials;
 mod flat_goals;
 mod flat_rules;
 mod framing;
 mod laws;
+mod mends;
 mod narrow;
 mod next;
 mod occurs;
+mod putting;
 mod rows;
 mod rule;
 mod showing;
@@ -20,6 +26,7 @@ pub use laws::{
     left_nodes_are_raw, premises_are_nodes, premises_are_well_linked, root_is_node,
     root_is_well_linked,
 };
+pub use mends::writes_for;
 pub use occurs::goal_vars;
 pub use rows::{Tried, add_row, row, rows_of, try_rule};
 pub use rule::{CallBy, Row, Rule};

@@ -54,6 +54,8 @@ fn vars_and_exist(alloc: Global, node: &Node) -> Result<Vec<Var>, NoMemory>
 pub(crate) fn next_of(alloc: Global, node: &Node) -> Result<Next, NoMemory>
     ensures next { IfOk result (λ next. next ≡ next_of node.now) }
     ensures low { IfOk result (λ next. next.ints ≤ 32) }
+    ensures low_cards { IfOk result (λ next. next.cards ≤ 32) }
+    ensures low_sets { IfOk result (λ next. next.sets ≤ 32) }
 {
     let vars = vars_and_exist(alloc, node)?;
     let vars = vars.as_slice();
