@@ -1,5 +1,7 @@
 pub mod AllocLeft
 pub mod BlocksMade
+pub mod CallLeaves
+pub mod CallTurns
 pub mod CellsTaken
 pub mod ChunkLists
 pub mod EachRule
@@ -23,6 +25,7 @@ pub mod GoalsMade
 pub mod NextNumbers
 pub mod OpenedLink
 pub mod Premises
+pub mod PutAmong
 pub mod RawNodes
 pub mod Root
 pub mod SameNodes

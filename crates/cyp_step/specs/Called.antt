@@ -1,7 +1,7 @@
 -- What a call makes, step by step.
-use Rattle.std.specs.Prelude.{[], ◌++◌, Bool, List, None, Option, Some, false, map, min, suc, true, ℕ, ◌∷◌, ◌||◌}
+use Rattle.std.specs.Prelude.{[], ◌++◌, Bool, List, None, Option, Some, false, map, min, option_map, suc, true, ℕ, ◌∷◌, ◌||◌}
 use Rattle.std.specs.List.{list_any}
-use Rattle.cyp_heap.specs.Chunks.{apply_chunk, wide_chunk}
+use Rattle.cyp_heap.specs.Chunks.{apply_chunk, insts, put_all, wide_chunk}
 use Rattle.cyp_heap.specs.declared.chunk.Chunk.{Chunk}
 use Rattle.cyp_heap.specs.declared.chunk.Chunk.TheVariants.{Inst}
 use Rattle.cyp_heap.specs.declared.goal.Goal.{Goal}
@@ -9,8 +9,8 @@ use Rattle.cyp_heap.specs.declared.goal.Link.{Link}
 use Rattle.cyp_heap.specs.declared.goal.Node.{Node}
 use Rattle.cyp_pred.specs.Unfold.{card_var}
 use Rattle.cyp_pred.specs.declared.unfolded.Next.{Next}
-use Rattle.cyp_step.specs.Calling.{after_call, with_exist}
-use Rattle.cyp_step.specs.Changes.{next_of}
+use Rattle.cyp_step.specs.Calling.{chunks_at, chunks_beside, next_tag, with_exist, with_new_cards}
+use Rattle.cyp_step.specs.Changes.{next_of, pre_of}
 use Rattle.cyp_term.specs.Terms.{apply_lit, is_set_var, set_var, var_term, wide_lit}
 use Rattle.cyp_term.specs.declared.lit.Lit.{Lit}
 use Rattle.cyp_term.specs.declared.subst.Subst.{Subst}
@@ -45,7 +45,7 @@ card_behind k c = k
 abbrev pub tag_behind : ℕ → ℕ
 tag_behind tag = min 4 (suc tag)
 
--- ---- offsets
+-- ---- what the companion leaves
 
 -- the companion's postcondition under the bindings has an offset past 2 ^ 32
 abbrev pub wide_post : Subst → Goal → Bool
@@ -59,6 +59,22 @@ post_under by g = (map (apply_lit by) g.pure_post, map (apply_chunk by) g.post.c
 abbrev pub bound_at : Node → Link → Match → Subst
 bound_at n l f = with_exist (next_of n) l.goal.exist f.by
 
+-- literals and chunks, whose instances get this tag and new cardinalities
+abbrev pub renewed : ℕ → ℕ → List Lit × List Chunk → List Lit × List Chunk
+renewed tag k p = (p.0, with_new_cards tag k p.1)
+
+-- what the companion leaves at a call
+abbrev pub call_leaves : Node → Link → Match → List Lit × List Chunk
+call_leaves n l f = renewed (next_tag (insts (chunks_at (pre_of n) f.pairs))) (next_of n).cards (post_under (bound_at n l f) l.goal)
+
+-- the same, or none where an offset in it passes 2 ^ 32
+abbrev pub narrow_leaves : Node → Link → Match → Option (List Lit × List Chunk)
+narrow_leaves n l f = elim (wide_post (bound_at n l f) l.goal) [ true ↦ None | false ↦ Some (call_leaves n l f) ]
+
+-- the paired chunks go, and this comes in their place
+abbrev pub with_leaves : Goal → List ℕ → List Lit × List Chunk → Goal
+with_leaves g ks p = record g { pure_pre = g.pure_pre ++ p.0; pre = record { chunks = put_all (chunks_beside 0 ks g.pre.chunks) p.1 } }
+
 -- the goal after a call, or none where an offset in what the companion leaves passes 2 ^ 32
 abbrev pub narrow_call : Node → Link → Match → Option Goal
-narrow_call n l f = elim (wide_post (bound_at n l f) l.goal) [ true ↦ None | false ↦ Some (after_call n l f).goal ]
+narrow_call n l f = option_map (with_leaves n.goal f.pairs) (narrow_leaves n l f)

@@ -1,8 +1,9 @@
 //! The goal after a call.
 
-ghost use Rattle.std.specs.Prelude.{IfOk, IsTrue, OnOk, length, max, suc, slice_get, ◌++◌, ◌+◌, ◌≡◌, ◌≤◌};
-ghost use Rattle.cyp_heap.specs.Chunks.{in_order, insts, put_all};
-ghost use Rattle.cyp_step.specs.Called.{bound_at, card_behind, narrow_call, next_behind, post_under, tag_behind, wide_post, with_card, with_new_var};
+ghost use Rattle.std.specs.Prelude.{IfOk, OnOk, length, max, slice_get, suc, ◌+◌, ◌<◌, ◌==◌, ◌≡◌, ◌≤◌};
+ghost use Rattle.std.specs.List.{list_any};
+ghost use Rattle.cyp_heap.specs.Chunks.{insts, put_all};
+ghost use Rattle.cyp_step.specs.Called.{card_behind, narrow_call, narrow_leaves, next_behind, post_under, tag_behind, wide_post, with_card, with_leaves, with_new_var};
 ghost use Rattle.cyp_step.specs.Calling.{chunk_or_none, chunks_at, chunks_beside, next_tag, with_exist, with_new_cards};
 ghost use Rattle.cyp_term.specs.Answers.{GivesUnless};
 
@@ -163,7 +164,37 @@ fn with_new_cards(
     Ok(List::from_vec(made))
 }
 
+/// What the companion leaves at a call by the match: literals and chunks. It is `None` where an offset
+/// in them passes 2^32 in size.
+fn leaves(
+    alloc: Global,
+    node: &Node,
+    link: &Link,
+    found: &Match,
+) -> Result<Option<(List<Lit>, List<Chunk>)>, NoMemory>
+    requires { length link.now.goal.post.chunks ≤ 16 }
+    ensures { IfOk result (λ p. p ≡ narrow_leaves node.now link.now found.now) }
+{
+    let next = next_of(alloc, node)?;
+    let goal = link.goal.get();
+    let by = with_exist(alloc, next, goal.exist.as_slice(), &found.by)?;
+    match post_under(alloc, goal, &by) {
+        Ok((lits, chunks)) => {
+            let tag = next_tag(node.goal().pre.chunks(), found.pairs.as_slice());
+            Ok(Some((lits, with_new_cards(alloc, chunks, tag, next.cards)?)))
+        }
+        Err(Fail::Named(TooWide)) => Ok(None),
+        Err(Fail::NoMemory) => Err(NoMemory),
+    }
+}
+
 // ---- the goal
+
+fn has(places: &[u8], place: u8) -> bool
+    ensures { result ≡ list_any (λ j. j == place) places.now }
+{
+    places.contains(&place)
+}
 
 /// Copies of the chunks whose place is none of these.
 fn chunks_beside(alloc: Global, chunks: &[Chunk], places: &[u8]) -> Result<List<Chunk>, NoMemory>
@@ -172,7 +203,7 @@ fn chunks_beside(alloc: Global, chunks: &[Chunk], places: &[u8]) -> Result<List<
 {
     let mut kept = Vec::new(alloc);
     for place in 0..chunks.len() {
-        if !places.contains(&(place as u8)) {
+        if !has(places, place as u8) {
             kept.push(chunks[place].copy(alloc)?)?;
         }
     }
@@ -190,7 +221,25 @@ fn called_pre(
     ensures { IfOk result (λ h. h.chunks ≡ put_all (chunks_beside 0 places.now pre.now.chunks) left) }
 {
     let kept = chunks_beside(alloc, pre.chunks(), places)?;
-    Ok(Heap::new(put_all(alloc, kept, left)?))
+    let chunks = put_all(alloc, kept, left)?;
+    Ok(Heap::new(chunks))
+}
+
+/// The goal where the chunks at the places have gone, and these literals and chunks have come.
+fn with_leaves(
+    alloc: Global,
+    goal: &Goal,
+    places: &[u8],
+    lits: List<Lit>,
+    chunks: List<Chunk>,
+) -> Result<Goal, NoMemory>
+    requires { length goal.now.pre.chunks ≤ 16 }
+    ensures { IfOk result (λ g. g ≡ with_leaves goal.now places.now (lits, chunks)) }
+{
+    let pre = called_pre(alloc, &goal.pre, places, chunks)?;
+    let mut called = with_pre(alloc, goal, pre)?;
+    called.pure_pre.append(lits)?;
+    Ok(called)
 }
 
 /// The goal after a call of the companion by the match, or `None` where an offset in what the
@@ -205,18 +254,11 @@ pub(crate) fn called_goal(
     ensures { IfOk result (λ g. g ≡ narrow_call node.now link.now found.now) }
 {
     let goal = node.goal();
-    let next = next_of(alloc, node)?;
-    let companion = link.goal.get();
-    let by = with_exist(alloc, next, companion.exist.as_slice(), &found.by)?;
-    let (lits, chunks) = match post_under(alloc, companion, &by) {
-        Ok(parts) => parts,
-        Err(Fail::Named(TooWide)) => return Ok(None),
-        Err(Fail::NoMemory) => return Err(NoMemory),
-    };
-    let tag = next_tag(goal.pre.chunks(), found.pairs.as_slice());
-    let left = with_new_cards(alloc, chunks, tag, next.cards)?;
-    let pre = called_pre(alloc, &goal.pre, found.pairs.as_slice(), left)?;
-    let mut called = with_pre(alloc, goal, pre)?;
-    called.pure_pre.append(lits)?;
-    Ok(Some(called))
+    match leaves(alloc, node, link, found)? {
+        Some((lits, chunks)) => {
+            let places = found.pairs.as_slice();
+            Ok(Some(with_leaves(alloc, goal, places, lits, chunks)?))
+        }
+        None => Ok(None),
+    }
 }
