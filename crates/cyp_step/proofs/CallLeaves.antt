@@ -2,13 +2,14 @@
 use Rattle.std.proofs.Common.{◌≡◌, ◌∙◌, ◌==◌, ◌≤◌, ◌++◌, ◌||◌, ℕ, suc, Bool, true, false, cond, List, [], ◌∷◌, None, Option, Some, IfSome, IsTrue, ap, length, map, option_map, refl, slice_get, subst, sym, nat_lt}
 use Rattle.std.specs.List.{AllByRecursion, list_all, list_any}
 use Rattle.std.specs.Option.{option_and_then}
-use Rattle.std.proofs.lemmas.Bool.{cond_both, or_left, or_right}
+use Rattle.std.proofs.lemmas.Bool.{cond_both, eqb-true, or_left, or_right}
 use Rattle.std.proofs.lemmas.List.Folds.{list_any-append}
 use Rattle.cyp_goal.proofs.LinksFit.{FitsPost, FitsPre, insts_fit_from, sides_fit}
 use Rattle.cyp_heap.specs.Chunks.{apply_chunk, kind_rank, put, put_all, wide_chunk}
 use Rattle.cyp_heap.specs.Formed.{insts_fit}
 use Rattle.cyp_heap.specs.Goals.{wide_goal, wide_node}
 use Rattle.cyp_heap.specs.Keeps.{KeepsNode}
+use Rattle.cyp_heap.specs.Limits.{is_within_limits}
 use Rattle.cyp_heap.specs.declared.chunk.Chunk.{Chunk}
 use Rattle.cyp_heap.specs.declared.chunk.Chunk.TheVariants.{Block, Cell, Inst}
 use Rattle.cyp_heap.specs.declared.goal.Goal.{Goal}
@@ -17,7 +18,7 @@ use Rattle.cyp_heap.specs.declared.goal.Node.{Node}
 use Rattle.cyp_step.proofs.ChunkLists.{list_all-slice_get}
 use Rattle.cyp_step.proofs.GoalOfNode.{goal_of_node}
 use Rattle.cyp_step.proofs.UnfoldedRaws.{called_fits}
-use Rattle.cyp_step.specs.Called.{bound_at, call_leaves, narrow_call, narrow_leaves, with_leaves, wide_post}
+use Rattle.cyp_step.specs.Called.{bound_at, call_leaves, goal_by, narrow_call, wide_post, with_leaves}
 use Rattle.cyp_step.specs.Calling.{after_call, chunks_beside, is_callable, raw_call, with_new_cards}
 use Rattle.cyp_step.specs.Changes.{Raws, pre_of}
 use Rattle.cyp_step.specs.Leaving.{LeavesRaws}
@@ -92,78 +93,80 @@ module _ (n : Node) (l : Link) (f : Match) where
 abbrev pub with_goal : Node → Option Goal → Raws
 with_goal n o = option_map (λ (g : Goal). record n { goal = g } ∷ []) o
 
-pub not_left : (n : Node) (c : CallBy) → raws n (ByCall c) ≡ None → LeavesRaws n (ByCall c) None
-not_left n c e = ap (λ (o : Raws). option_and_then all_normal o) e
-
 module _ (n : Node) (c : CallBy) where
-  -- what is left where the companion is there, and where it matches
+  -- what is left where the companion is there, where it matches, and where it can be called
   abbrev with_link : Option Link → Raws
   with_link o = raw_call n c.pairs o
 
-  pub no_link : (o : Option Link) → slice_get n.links c.link ≡ o → o ≡ None → LeavesRaws n (ByCall c) None
-  no_link o e d = not_left n c (ap with_link (e ∙ d))
+  abbrev tested : Link → Match → Bool → Raws
+  tested l f b = elim b [ false ↦ None | true ↦ Some (after_call n l f ∷ []) ]
 
-  module _ (l : Link) (at : slice_get n.links c.link ≡ Some l) where
-    abbrev with_match : Option Match → Raws
-    with_match o = elim o [ None ↦ None | Some f ↦ elim (is_callable n l f) [ false ↦ None | true ↦ Some (after_call n l f ∷ []) ] ]
+  abbrev with_match : Link → Option Match → Raws
+  with_match l o = elim o [ None ↦ None | Some f ↦ tested l f (is_callable n l f) ]
 
-    there : raws n (ByCall c) ≡ with_match (match_at n l c.pairs)
-    there = ap with_link at
+  not_left : raws n (ByCall c) ≡ None → LeavesRaws n (ByCall c) None
+  not_left e = ap (λ (o : Raws). option_and_then all_normal o) e
 
-    pub no_match : match_at n l c.pairs ≡ None → LeavesRaws n (ByCall c) None
-    no_match e = not_left n c (there ∙ ap with_match e)
+  abbrev narrowed : Link → Match → Bool → Option Goal
+  narrowed l f b = option_map (with_leaves n.goal f.pairs) (elim b [ true ↦ None | false ↦ Some (call_leaves n l f) ])
 
-    module _ (f : Match) (is : match_at n l c.pairs ≡ Some f) where
-      abbrev tested : Bool → Raws
-      tested b = elim b [ false ↦ None | true ↦ Some (after_call n l f ∷ []) ]
+  by_width : (l : Link) (f : Match) (b : Bool) → wide_post (bound_at n l f) l.goal ≡ b → raws n (ByCall c) ≡ Some (after_call n l f ∷ [])
+      → LeavesRaws n (ByCall c) (with_goal n (narrowed l f b))
+  by_width l f false e h = h
+  by_width l f true e h = ap (λ (o : Raws). option_and_then all_normal o) h ∙ rw (wide_after n l f e, all_normal) refl
 
-      matched : raws n (ByCall c) ≡ tested (is_callable n l f)
-      matched = there ∙ ap with_match is
+  by_test : (l : Link) (f : Match) (b : Bool) → is_callable n l f ≡ b → raws n (ByCall c) ≡ tested l f (is_callable n l f)
+      → LeavesRaws n (ByCall c) (with_goal n (elim b [ false ↦ None | true ↦ narrow_call n l f ]))
+  by_test l f false e h = not_left (h ∙ ap (tested l f) e)
+  by_test l f true e h = by_width l f (wide_post (bound_at n l f) l.goal) refl (h ∙ ap (tested l f) e)
 
-      pub not_callable : is_callable n l f ≡ false → LeavesRaws n (ByCall c) None
-      not_callable e = not_left n c (matched ∙ ap tested e)
+  by_match : (l : Link) (o : Option Match) → match_at n l c.pairs ≡ o → raws n (ByCall c) ≡ with_match l (match_at n l c.pairs) → LeavesRaws n (ByCall c) (with_goal n (goal_by n l o))
+  by_match l None e h = not_left (h ∙ ap (with_match l) e)
+  by_match l (Some f) e h = by_test l f (is_callable n l f) refl (h ∙ ap (with_match l) e)
 
-      module _ (can : is_callable n l f ≡ true) where
-        allowed : raws n (ByCall c) ≡ Some (after_call n l f ∷ [])
-        allowed = matched ∙ ap tested can
+  pub no_link : slice_get n.links c.link ≡ None → LeavesRaws n (ByCall c) None
+  no_link e = not_left (ap with_link e)
 
-        abbrev narrowed : Bool → Raws
-        narrowed b = with_goal n (option_map (with_leaves n.goal f.pairs) (elim b [ true ↦ None | false ↦ Some (call_leaves n l f) ]))
-
-        abbrev formed : Bool → Option (List _)
-        formed b = elim b [ true ↦ None | false ↦ all_normal (after_call n l f ∷ []) ]
-
-        by_width : (b : Bool) → wide_post (bound_at n l f) l.goal ≡ b → LeavesRaws n (ByCall c) (narrowed b)
-        by_width false e = allowed
-        by_width true e = ap (λ (o : Raws). option_and_then all_normal o) allowed ∙ (rw (wide_after n l f e, all_normal) refl)
-
-        pub called_leaves : (o : Option Goal) (r : Raws) → o ≡ narrow_call n l f → r ≡ with_goal n o → LeavesRaws n (ByCall c) r
-        called_leaves o r e d = rw (d, e) (by_width (wide_post (bound_at n l f) l.goal) refl)
+  pub called_leaves : (l : Link) (o : Option Goal) (r : Raws) → slice_get n.links c.link ≡ Some l → o ≡ goal_by n l (match_at n l c.pairs) → r ≡ with_goal n o → LeavesRaws n (ByCall c) r
+  called_leaves l o r at d h = rw (h, d) (by_match l (match_at n l c.pairs) refl (ap with_link at))
 
 -- ---- what the node keeps of its companions
 
-module _ (n : Node) (k : KeepsNode n) (i : ℕ) (l : Link) (at : slice_get n.links i ≡ Some l) where
-  passes : (p : Link → Bool) → IsTrue (list_all p n.links) → IsTrue (p l)
-  passes p h = subst (λ (o : Option Link). IfSome o (λ m. IsTrue (p m))) at (list_all-slice_get p n.links i h)
+module _ (n : Node) (k : KeepsNode n) where
+  abbrev FitsHere : Goal → Type 0
+  FitsHere g = IsTrue (insts_fit n.preds g)
 
-  pub link_fits : IsTrue (insts_fit n.preds l.goal)
-  link_fits = passes (λ (m : Link). insts_fit n.preds m.goal) k.linked.goals_fit
+  module _ (i : ℕ) (l : Link) (at : slice_get n.links i ≡ Some l) where
+    passes : (p : Link → Bool) → IsTrue (list_all p n.links) → IsTrue (p l)
+    passes p h = subst (λ (o : Option Link). IfSome o (λ m. IsTrue (p m))) at (list_all-slice_get p n.links i h)
 
-  pub few_left : length l.goal.post.chunks ≤ 16
-  few_left = (goal_of_node (record { preds = n.preds; goal = l.goal; links = [] }) (passes _ k.linked.goals_within)).post_chunks
+    link_fits : FitsHere l.goal
+    link_fits = passes (λ (m : Link). insts_fit n.preds m.goal) k.linked.goals_fit
 
-  pub as_long : IsTrue (length l.own == length l.tuple)
-  as_long = passes (λ (m : Link). length m.own == length m.tuple) k.linked.own_as_long
+    pub few_left : length l.goal.post.chunks ≤ 16
+    few_left =
+        (goal_of_node (record { preds = n.preds; goal = l.goal; links = [] })
+        (passes (λ (m : Link). is_within_limits (record { preds = n.preds; goal = m.goal; links = [] })) k.linked.goals_within)).post_chunks
 
-  after_fits : (f : Match) → IsTrue (insts_fit n.preds (after_call n l f).goal)
-  after_fits f =
-      let w : IsNode n = record { within = k.within; raw = record { fits = k.fits; linked = k.linked } } in
-      insts_fit_from n.preds (after_call n l f).goal (record { pre = called_fits n w l f link_fits; post = (sides_fit n.preds n.goal k.fits).post })
+    pub as_long : length l.own ≡ length l.tuple
+    as_long = eqb-true (length l.own) (length l.tuple) (passes (λ (m : Link). length m.own == length m.tuple) k.linked.own_as_long)
 
-  narrow_fits : (f : Match) (b : Bool) → IfSome (option_map (with_leaves n.goal f.pairs) (elim b [ true ↦ None | false ↦ Some (call_leaves n l f) ])) (λ g. IsTrue (insts_fit n.preds g))
-  narrow_fits f true = tt
-  narrow_fits f false = after_fits f
+    after_fits : (f : Match) → FitsHere (after_call n l f).goal
+    after_fits f =
+        let w : IsNode n = record { within = k.within; raw = record { fits = k.fits; linked = k.linked } } in
+        insts_fit_from n.preds (after_call n l f).goal (record { pre = called_fits n w l f link_fits; post = (sides_fit n.preds n.goal k.fits).post })
 
-  pub call_fits : (f : Match) (o : Option Goal) → o ≡ narrow_call n l f → (g : Goal) → o ≡ Some g → IsTrue (insts_fit n.preds g)
-  call_fits f o e g d =
-      subst (λ (p : Option Goal). IfSome p (λ h. IsTrue (insts_fit n.preds h))) (sym e ∙ d) (narrow_fits f (wide_post (bound_at n l f) l.goal))
+    narrow_fits : (f : Match) (b : Bool) → IfSome (option_map (with_leaves n.goal f.pairs) (elim b [ true ↦ None | false ↦ Some (call_leaves n l f) ])) FitsHere
+    narrow_fits f true = tt
+    narrow_fits f false = after_fits f
+
+    test_fits : (f : Match) (b : Bool) → IfSome (elim b [ false ↦ None | true ↦ narrow_call n l f ]) FitsHere
+    test_fits f false = tt
+    test_fits f true = narrow_fits f (wide_post (bound_at n l f) l.goal)
+
+    match_fits : (o : Option Match) → IfSome (goal_by n l o) FitsHere
+    match_fits None = tt
+    match_fits (Some f) = test_fits f (is_callable n l f)
+
+    pub call_fits : (o : Option Goal) (m : Option Match) → o ≡ goal_by n l m → (g : Goal) → o ≡ Some g → FitsHere g
+    call_fits o m e g d = subst (λ (p : Option Goal). IfSome p FitsHere) (sym e ∙ d) (match_fits m)

@@ -9,7 +9,7 @@ use Rattle.cyp_heap.specs.declared.goal.Link.{Link}
 use Rattle.cyp_heap.specs.declared.goal.Node.{Node}
 use Rattle.cyp_pred.specs.Unfold.{card_var}
 use Rattle.cyp_pred.specs.declared.unfolded.Next.{Next}
-use Rattle.cyp_step.specs.Calling.{chunks_at, chunks_beside, next_tag, with_exist, with_new_cards}
+use Rattle.cyp_step.specs.Calling.{chunks_at, chunks_beside, is_callable, next_tag, with_exist, with_new_cards}
 use Rattle.cyp_step.specs.Changes.{next_of, pre_of}
 use Rattle.cyp_term.specs.Terms.{apply_lit, is_set_var, set_var, var_term, wide_lit}
 use Rattle.cyp_term.specs.declared.lit.Lit.{Lit}
@@ -78,3 +78,12 @@ with_leaves g ks p = record g { pure_pre = g.pure_pre ++ p.0; pre = record { chu
 -- the goal after a call, or none where an offset in what the companion leaves passes 2 ^ 32
 abbrev pub narrow_call : Node → Link → Match → Option Goal
 narrow_call n l f = option_map (with_leaves n.goal f.pairs) (narrow_leaves n l f)
+
+-- the goal after a call by this match, or none where the companion can't be called or an offset passes 2 ^ 32
+abbrev pub goal_after : Node → Link → Match → Option Goal
+goal_after n l f = elim (is_callable n l f) [ false ↦ None | true ↦ narrow_call n l f ]
+
+-- the same, where there is a match
+abbrev pub goal_by : Node → Link → Option Match → Option Goal
+goal_by n l None = None
+goal_by n l (Some f) = goal_after n l f
