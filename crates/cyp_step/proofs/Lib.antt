@@ -1,9 +1,12 @@
 pub mod AllocLeft
 pub mod BlocksMade
 pub mod CallLeaves
+pub mod CallTests
 pub mod CallTurns
 pub mod CellsTaken
 pub mod ChunkLists
+pub mod ChunksKept
+pub mod ChunksPut
 pub mod EachRule
 mod Examples
 pub mod ExamplesDispose
@@ -25,7 +28,6 @@ pub mod GoalsMade
 pub mod NextNumbers
 pub mod OpenedLink
 pub mod Premises
-pub mod PutAmong
 pub mod RawNodes
 pub mod Root
 pub mod SameNodes

@@ -1,9 +1,10 @@
 //! Whether a companion can be called.
 
-ghost use Rattle.std.specs.Prelude.{IfOk, length, map, ◌&&◌, ◌≡◌};
+ghost use Rattle.std.specs.Prelude.{IfOk, is_some, length, map, ◌&&◌, ◌≡◌};
 ghost use Rattle.std.specs.List.{list_all, list_any};
 ghost use Rattle.cyp_goal.specs.Facts.{facts};
 ghost use Rattle.cyp_step.specs.Calling.{are_shown, is_callable, is_lower};
+ghost use Rattle.cyp_step.specs.Mends.{writes_for};
 ghost use Rattle.cyp_step.specs.Shown.{is_program_expr, shown};
 ghost use Rattle.cyp_term.specs.Terms.{apply_lit, apply_term, var_term};
 
@@ -116,6 +117,20 @@ fn holds(
     are_shown(alloc, goal, known, pure_pre, &found.by)
 }
 
+/// Whether the program can do the stores that the call needs.
+fn can_store(
+    alloc: Global,
+    goal: &Goal,
+    known: &[Lit],
+    found: &Match,
+) -> Result<bool, NoMemory>
+    requires { known.now ≡ facts goal.now }
+    ensures { IfOk result (λ b. b ≡ is_some (writes_for goal.now found.now)) }
+{
+    let stores = writes(alloc, goal, known, found)?;
+    Ok(stores.is_some())
+}
+
 /// Whether the companion's precondition is there, with program expressions for its program
 /// variables, and its measure falls.
 pub(crate) fn is_callable(
@@ -133,7 +148,10 @@ pub(crate) fn is_callable(
     }
     let known = facts(alloc, goal)?;
     let known = known.as_slice();
-    if !holds(alloc, goal, known, link, found)? || writes(alloc, goal, known, found)?.is_none() {
+    if !holds(alloc, goal, known, link, found)? {
+        return Ok(false);
+    }
+    if !can_store(alloc, goal, known, found)? {
         return Ok(false);
     }
     is_lower(alloc, node, known, link, found)

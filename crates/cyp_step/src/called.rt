@@ -10,7 +10,7 @@ ghost use Rattle.cyp_term.specs.Answers.{GivesUnless};
 use crate::applying::apply_lits;
 use crate::flat_goals::{set_of, with_pre};
 use crate::next::next_of;
-use crate::putting::put_all;
+use crate::placing::put_all;
 use cyp_heap::{Chunk, Goal, Heap, InstOf, Link, Node};
 use cyp_pred::Next;
 use cyp_term::{Copied, Fail, IntBind, List, Lit, NoMemory, SetBind, Sort, Subst, Term, TooWide, Var};
@@ -221,8 +221,7 @@ fn called_pre(
     ensures { IfOk result (λ h. h.chunks ≡ put_all (chunks_beside 0 places.now pre.now.chunks) left) }
 {
     let kept = chunks_beside(alloc, pre.chunks(), places)?;
-    let chunks = put_all(alloc, kept, left)?;
-    Ok(Heap::new(chunks))
+    put_all(alloc, Heap::new(kept), left)
 }
 
 /// The goal where the chunks at the places have gone, and these literals and chunks have come.

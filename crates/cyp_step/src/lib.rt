@@ -15,7 +15,7 @@ mod mends;
 mod narrow;
 mod next;
 mod occurs;
-mod putting;
+mod placing;
 mod rows;
 mod rule;
 mod showing;
