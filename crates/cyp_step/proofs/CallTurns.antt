@@ -2,13 +2,14 @@
 use Rattle.std.proofs.Common.{◌≡◌, ◌∙◌, ◌==◌, ◌+◌, ◌<◌, ◌≤◌, ◌++◌, ℕ, suc, Bool, true, false, cond, List, [], ◌∷◌, None, Option, Some, add-one, ap, append_assoc, arith, drop, get_or, length, max, refl, slice_get, subst, sym}
 use Rattle.std.specs.List.{list_any}
 use Rattle.std.specs.Prelude.{min}
+use Rattle.std.proofs.lemmas.List.{get_or_default}
 use Rattle.cyp_goal.proofs.Loops.{rest_step}
 use Rattle.cyp_heap.specs.Chunks.{insts}
 use Rattle.cyp_heap.specs.declared.chunk.Chunk.{Chunk}
 use Rattle.cyp_heap.specs.declared.chunk.Chunk.TheVariants.{Block, Cell, Inst}
 use Rattle.cyp_heap.specs.declared.chunk.InstOf.{InstOf}
 use Rattle.cyp_pred.specs.declared.unfolded.Next.{Next}
-use Rattle.cyp_step.specs.Called.{card_behind, next_behind, with_card, with_new_var}
+use Rattle.cyp_step.specs.Called.{card_behind, kept_unless, next_behind, with_card, with_new_var}
 use Rattle.cyp_step.specs.Calling.{chunk_or_none, chunks_at, chunks_beside, greatest_tag, next_tag, with_exist, with_new_cards}
 use Rattle.cyp_term.specs.Terms.{is_set_var, set_var, var_term}
 use Rattle.cyp_term.specs.declared.subst.Subst.{Subst}
@@ -31,10 +32,11 @@ module _ (n : Next) (v : Var) (vs : List Var) (by : Subst) where
   exist_first : with_exist n (v ∷ vs) by ≡ with_exist (next_behind n v) vs (with_new_var n v by)
   exist_first = by_sort (is_set_var v)
 
-pub exist_turn : (vs : List Var) (i : ℕ) (v : Var) (n m : Next) (b d r : Subst) → with_exist n (drop i vs) b ≡ r → i < length vs → v ≡ get_or vs i v
-    → m ≡ next_behind n v → d ≡ with_new_var n v b → with_exist m (drop (i + 1) vs) d ≡ r
-exist_turn vs i v n m b d r h lt is e f =
-    rest_step (λ (s : Next × Subst) ws. with_exist s.0 ws s.1) vs i r (n, b) (m, d) v h lt is (λ ws. exist_first n v ws b ∙ sym (λ j. with_exist (e j) ws (f j)))
+pub exist_turn : (vs : List Var) (i : ℕ) (u : Var) (n m : Next) (b d r : Subst) → with_exist n (drop i vs) b ≡ r → i < length vs
+    → m ≡ next_behind n (get_or vs i u) → d ≡ with_new_var n (get_or vs i u) b → with_exist m (drop (i + 1) vs) d ≡ r
+exist_turn vs i u n m b d r h lt e f =
+    let v : Var = get_or vs i u in
+    rest_step (λ (s : Next × Subst) ws. with_exist s.0 ws s.1) vs i r (n, b) (m, d) v h lt (get_or_default vs i u v lt) (λ ws. exist_first n v ws b ∙ sym (λ j. with_exist (e j) ws (f j)))
 
 -- ---- new cardinalities
 
@@ -83,30 +85,28 @@ tag_first old (Some (Inst i)) ds = ap (max old) (one_tag i (insts ds)) ∙ max_f
 tag_first old (Some (Block b)) ds = max_none old (next_tag (insts ds))
 tag_first old (Some (Cell c)) ds = max_none old (next_tag (insts ds))
 
-pub tag_turn : (cs : List Chunk) (ks : List ℕ) (i k old new r : ℕ) → max old (next_tag (insts (chunks_at cs (drop i ks)))) ≡ r → i < length ks → k ≡ get_or ks i k
-    → new ≡ max old (next_tag (insts (chunk_or_none (slice_get cs k)))) → max new (next_tag (insts (chunks_at cs (drop (i + 1) ks)))) ≡ r
-tag_turn cs ks i k old new r h lt is e =
-    rest_step (λ (n : ℕ) ws. max n (next_tag (insts (chunks_at cs ws)))) ks i r old new k h lt is
+pub tag_turn : (cs : List Chunk) (ks : List ℕ) (i d old new r : ℕ) → max old (next_tag (insts (chunks_at cs (drop i ks)))) ≡ r → i < length ks
+    → new ≡ max old (next_tag (insts (chunk_or_none (slice_get cs (get_or ks i d))))) → max new (next_tag (insts (chunks_at cs (drop (i + 1) ks)))) ≡ r
+tag_turn cs ks i d old new r h lt e =
+    let k : ℕ = get_or ks i d in
+    rest_step (λ (n : ℕ) ws. max n (next_tag (insts (chunks_at cs ws)))) ks i r old new k h lt (get_or_default ks i d k lt)
     (λ ws. tag_first old (slice_get cs k) (chunks_at cs ws) ∙ ap (λ n. max n (next_tag (insts (chunks_at cs ws)))) (sym e))
 
 -- ---- chunks that stay
 
 module _ (ks : List ℕ) (i : ℕ) (c : Chunk) (kept : List Chunk) where
-  abbrev pub kept_with : Bool → List Chunk
-  kept_with b = cond b kept (kept ++ c ∷ [])
-
-  beside_test : (ys : List Chunk) (b : Bool) → kept ++ cond b ys (c ∷ ys) ≡ kept_with b ++ ys
+  beside_test : (ys : List Chunk) (b : Bool) → kept ++ cond b ys (c ∷ ys) ≡ kept_unless b kept c ++ ys
   beside_test ys true = refl
   beside_test ys false = sym (append_assoc kept (c ∷ []) ys)
 
-  beside_first : (ys : List Chunk) (b : Bool) → list_any (λ j. j == i) ks ≡ b → kept ++ chunks_beside i ks (c ∷ ys) ≡ kept_with b ++ chunks_beside (i + 1) ks ys
+  beside_first : (ys : List Chunk) (b : Bool) → list_any (λ j. j == i) ks ≡ b → kept ++ chunks_beside i ks (c ∷ ys) ≡ kept_unless b kept c ++ chunks_beside (i + 1) ks ys
   beside_first ys b e =
       ap (λ t. kept ++ cond t (chunks_beside (suc i) ks ys) (c ∷ chunks_beside (suc i) ks ys)) e
       ∙ beside_test (chunks_beside (suc i) ks ys) b
-      ∙ ap (λ k. kept_with b ++ chunks_beside k ks ys) (sym (add-one i))
+      ∙ ap (λ k. kept_unless b kept c ++ chunks_beside k ks ys) (sym (add-one i))
 
   pub beside_turn : (cs new r : List Chunk) (b : Bool) → kept ++ chunks_beside i ks (drop i cs) ≡ r → i < length cs → c ≡ get_or cs i c
-      → list_any (λ j. j == i) ks ≡ b → new ≡ kept_with b → new ++ chunks_beside (i + 1) ks (drop (i + 1) cs) ≡ r
+      → list_any (λ j. j == i) ks ≡ b → new ≡ kept_unless b kept c → new ++ chunks_beside (i + 1) ks (drop (i + 1) cs) ≡ r
   beside_turn cs new r b h lt is e put =
       rest_step (λ (s : List Chunk × ℕ) ys. s.0 ++ chunks_beside s.1 ks ys) cs i r (kept, i) (new, i + 1) c h lt is
       (λ ys. beside_first ys b e ∙ ap (λ ds. ds ++ chunks_beside (i + 1) ks ys) (sym put))

@@ -1,5 +1,5 @@
 -- What a call makes, step by step.
-use Rattle.std.specs.Prelude.{[], ◌++◌, Bool, List, None, Option, Some, false, map, min, option_map, suc, true, ℕ, ◌∷◌, ◌||◌}
+use Rattle.std.specs.Prelude.{[], ◌++◌, Bool, List, None, Option, Some, cond, false, map, min, option_map, suc, true, ℕ, ◌∷◌, ◌||◌}
 use Rattle.std.specs.List.{list_any}
 use Rattle.cyp_heap.specs.Chunks.{apply_chunk, insts, put_all, wide_chunk}
 use Rattle.cyp_heap.specs.declared.chunk.Chunk.{Chunk}
@@ -74,6 +74,10 @@ narrow_leaves n l f = elim (wide_post (bound_at n l f) l.goal) [ true ↦ None |
 -- the paired chunks go, and this comes in their place
 abbrev pub with_leaves : Goal → List ℕ → List Lit × List Chunk → Goal
 with_leaves g ks p = record g { pure_pre = g.pure_pre ++ p.0; pre = record { chunks = put_all (chunks_beside 0 ks g.pre.chunks) p.1 } }
+
+-- the chunks and, behind them, this one, unless it goes
+abbrev pub kept_unless : Bool → List Chunk → Chunk → List Chunk
+kept_unless goes kept c = cond goes kept (kept ++ c ∷ [])
 
 -- the goal after a call, or none where an offset in what the companion leaves passes 2 ^ 32
 abbrev pub narrow_call : Node → Link → Match → Option Goal

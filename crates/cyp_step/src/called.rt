@@ -3,7 +3,7 @@
 ghost use Rattle.std.specs.Prelude.{IfOk, OnOk, length, max, slice_get, suc, ◌+◌, ◌<◌, ◌==◌, ◌≡◌, ◌≤◌};
 ghost use Rattle.std.specs.List.{list_any};
 ghost use Rattle.cyp_heap.specs.Chunks.{insts, put_all};
-ghost use Rattle.cyp_step.specs.Called.{card_behind, narrow_call, narrow_leaves, next_behind, post_under, tag_behind, wide_post, with_card, with_leaves, with_new_var};
+ghost use Rattle.cyp_step.specs.Called.{card_behind, kept_unless, narrow_call, narrow_leaves, next_behind, post_under, tag_behind, wide_post, with_card, with_leaves, with_new_var};
 ghost use Rattle.cyp_step.specs.Calling.{chunk_or_none, chunks_at, chunks_beside, next_tag, with_exist, with_new_cards};
 ghost use Rattle.cyp_term.specs.Answers.{GivesUnless};
 
@@ -196,6 +196,21 @@ fn has(places: &[u8], place: u8) -> bool
     places.contains(&place)
 }
 
+/// Adds a copy of the chunk, unless it goes.
+fn add_kept(
+    alloc: Global,
+    kept: &mut Vec<Chunk>,
+    chunk: &Chunk,
+    goes: bool,
+) -> Result<(), NoMemory>
+    ensures { OnOk result (kept.new.items ≡ kept_unless goes kept.old.items chunk.now) }
+{
+    if !goes {
+        kept.push(chunk.copy(alloc)?)?;
+    }
+    Ok(())
+}
+
 /// Copies of the chunks whose place is none of these.
 fn chunks_beside(alloc: Global, chunks: &[Chunk], places: &[u8]) -> Result<List<Chunk>, NoMemory>
     requires { length chunks.now ≤ 16 }
@@ -203,9 +218,8 @@ fn chunks_beside(alloc: Global, chunks: &[Chunk], places: &[u8]) -> Result<List<
 {
     let mut kept = Vec::new(alloc);
     for place in 0..chunks.len() {
-        if !has(places, place as u8) {
-            kept.push(chunks[place].copy(alloc)?)?;
-        }
+        let goes = has(places, place as u8);
+        add_kept(alloc, &mut kept, &chunks[place], goes)?;
     }
     Ok(List::from_vec(kept))
 }
