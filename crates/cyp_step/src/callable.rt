@@ -148,10 +148,12 @@ pub(crate) fn is_callable(
     }
     let known = facts(alloc, goal)?;
     let known = known.as_slice();
-    if !holds(alloc, goal, known, link, found)? {
+    let held = holds(alloc, goal, known, link, found)?;
+    if !held {
         return Ok(false);
     }
-    if !can_store(alloc, goal, known, found)? {
+    let stored = can_store(alloc, goal, known, found)?;
+    if !stored {
         return Ok(false);
     }
     is_lower(alloc, node, known, link, found)
