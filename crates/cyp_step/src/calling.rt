@@ -1,6 +1,7 @@
 //! What ByCall leaves to do, before the normal form.
 
-ghost use Rattle.std.specs.Prelude.{IfOk, Some, length, slice_get, ◌≡◌, ◌≤◌};
+ghost use Rattle.std.specs.Prelude.{IfOk, MatchOption, None, Some, length, slice_get, ◌≡◌, ◌≤◌};
+ghost use Rattle.cyp_heap.specs.Keeps.{KeepsNode};
 ghost use Rattle.cyp_step.specs.Called.{goal_after, goal_by};
 ghost use Rattle.cyp_step.specs.Leaving.{LeavesRaws};
 ghost use Rattle.cyp_step.specs.declared.rule.Rule.TheVariants.{ByCall};
@@ -51,12 +52,20 @@ fn goal_by(
     }
 }
 
+/// The companion at the place, where there is one.
+fn link_at(node: &Node, place: u8) -> Option<&Link>
+    ensures link { MatchOption result (slice_get node.now.links place ≡ None) (λ l. slice_get node.now.links place ≡ Some l.now) }
+    ensures keeps { KeepsNode node.now }
+{
+    node.links().as_slice().get(place as usize)
+}
+
 /// What ByCall leaves to do. It is `None` where the companion can't be called by the pairing, and
 /// where an offset in what it leaves passes 2^32 in size.
 pub(crate) fn call(alloc: Global, node: &Node, by: &CallBy) -> Result<Raws, NoMemory>
     ensures { IfOk result (LeavesRaws node.now (ByCall by.now)) }
 {
-    match node.links().as_slice().get(by.link as usize) {
+    match link_at(node, by.link) {
         Some(link) => {
             let goal = goal_by(alloc, node, link, by)?;
             left(alloc, node, goal)
