@@ -1,2 +1,6 @@
-//! The rows of Call: definitions.
+//! The rows of Call.
 #![tactic(auto)]
+
+mod calls;
+
+pub use calls::call_rows;

@@ -1,8 +1,12 @@
 pub mod AllocLeft
 pub mod BlocksMade
-pub mod CellsTaken
+pub mod CallLeaves
+pub mod CallTests
+pub mod CallTurns
 pub mod CanUnfold
+pub mod CellsTaken
 pub mod ChunkLists
+pub mod ChunksKept
 pub mod ChunksPut
 pub mod CloseSteps
 pub mod ClosedNodes

@@ -96,23 +96,23 @@ module _ (n : Node) (w : IsNode n) where
   post : AllByRecursion (FitsPost n.preds) n.goal.post.chunks
   post = (its_sides n w).post
 
+  pub called_fits : (l : Link) (f : Match) → IsTrue (insts_fit n.preds l.goal) → AllByRecursion (FitsPre n.preds) (after_call n l f).goal.pre.chunks
+  called_fits l f fits =
+      let next : Next = next_of n in
+      let by : Subst = with_exist next l.goal.exist f.by in
+      let tag : ℕ = next_tag (insts (chunks_at (pre_of n) f.pairs)) in
+      let chunks : List Chunk = map (apply_chunk by) l.goal.post.chunks in
+      let bare : InstOf → Bool = λ i. is_none i.card in
+      Every-put_all (FitsPre n.preds) (chunks_beside 0 f.pairs (pre_of n)) (with_new_cards tag next.cards chunks)
+      (new_cards_fit n.preds tag next.cards chunks
+      (applied_insts by n.preds l.goal.post.chunks (passes_first (inst_fits n.preds) bare l.goal.post.chunks (sides_fit n.preds l.goal fits).post)))
+      (beside_kept (FitsPre n.preds) 0 f.pairs (pre_of n) pre)
+
   pub call_left : (ks : List ℕ) (o : Option Link) → IfSome o (λ (l : Link). IsTrue (insts_fit n.preds l.goal)) → AreLeft n (raw_call n ks o)
   call_left ks None h = tt
   call_left ks (Some l) h =
       by_option (match_at n l ks) (λ e. rw (e, raw_call) tt)
-      (λ f e. rw (e, raw_call) (by_test (is_callable n l f) (λ d. rw d (left_one n w _ (called f h) post)) (λ d. rw d tt)))
-    where
-      called : (f : Match) → IsTrue (insts_fit n.preds l.goal) → AllByRecursion (FitsPre n.preds) (after_call n l f).goal.pre.chunks
-      called f fits =
-          let next : Next = next_of n in
-          let by : Subst = with_exist next l.goal.exist f.by in
-          let tag : ℕ = next_tag (insts (chunks_at (pre_of n) f.pairs)) in
-          let chunks : List Chunk = map (apply_chunk by) l.goal.post.chunks in
-          let bare : InstOf → Bool = λ i. is_none i.card in
-          Every-put_all (FitsPre n.preds) (chunks_beside 0 f.pairs (pre_of n)) (with_new_cards tag next.cards chunks)
-          (new_cards_fit n.preds tag next.cards chunks
-          (applied_insts by n.preds l.goal.post.chunks (passes_first (inst_fits n.preds) bare l.goal.post.chunks (sides_fit n.preds l.goal fits).post)))
-          (beside_kept (FitsPre n.preds) 0 f.pairs (pre_of n) pre)
+      (λ f e. rw (e, raw_call) (by_test (is_callable n l f) (λ d. rw d (left_one n w _ (called_fits l f h) post)) (λ d. rw d tt)))
 
   pub open_left : (i : ℕ) (o : Option Chunk) → slice_get (pre_of n) i ≡ o → IfSome o (FitsPre n.preds) → AreLeft n (raw_open n i o)
   open_left i (Some (Inst j)) at h =

@@ -9,6 +9,7 @@ pub mod Unfolding
 pub mod UnfoldParts
 pub mod Mends
 pub mod Calling
+pub mod Called
 pub mod Step
 pub mod Leaving
 pub mod Rows

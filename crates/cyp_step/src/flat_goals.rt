@@ -19,7 +19,7 @@ use cyp_term::{Copied, List, Lit, NoMemory, SetTerm, Sort, Term, Var};
 use std::alloc::Global;
 
 /// The cell at the place.
-fn cell_in(chunks: &[Chunk], place: usize) -> Option<CellAt>
+pub(crate) fn cell_in(chunks: &[Chunk], place: usize) -> Option<CellAt>
     ensures { result ≡ cell_in (slice_get chunks.now place) }
 {
     match chunks.get(place) {

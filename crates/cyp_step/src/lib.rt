@@ -2,6 +2,10 @@
 #![tactic(auto)]
 
 mod allocating;
+mod applying;
+mod callable;
+mod called;
+mod calling;
 mod closing;
 mod entries;
 mod existentials;
@@ -11,6 +15,7 @@ mod framing;
 mod identity;
 mod laws;
 mod measures;
+mod mends;
 mod narrow;
 mod next;
 mod occurs;
@@ -27,6 +32,7 @@ pub use laws::{
     left_nodes_are_raw, premises_are_nodes, premises_are_well_linked, root_is_node,
     root_is_well_linked,
 };
+pub use mends::writes_for;
 pub use occurs::goal_vars;
 pub use rows::{Tried, add_row, row, rows_of, try_rule};
 pub use rule::{CallBy, Row, Rule};
