@@ -1,5 +1,5 @@
 -- The calls of one companion more.
-use Rattle.std.proofs.Common.{◌≡◌, ◌∙◌, ◌+◌, ◌<◌, ◌≤◌, ◌++◌, ◌∷◌, ℕ, zero, suc, [], List, None, Option, Some, add-one, ap, append-nil, append_assoc, drop, length, option_map, slice_get, sym}
+use Rattle.std.proofs.Common.{◌≡◌, ◌∙◌, ◌+◌, ◌≤◌, ◌++◌, ◌∷◌, ℕ, zero, suc, [], List, Some, add-one, ap, append-nil, append_assoc, drop, length, option_map, slice_get, sym}
 use Rattle.std.proofs.lemmas.List.{at_drop_all}
 use Rattle.cyp_call.specs.CallRows.{call_rules_at}
 use Rattle.cyp_call.specs.CallsOf.{calls_of}
