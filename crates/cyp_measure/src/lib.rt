@@ -1,6 +1,2 @@
-//! Measures of calls: definitions.
+//! The measure of a call: definitions.
 #![tactic(auto)]
-
-mod decrease;
-
-pub use decrease::decreases;

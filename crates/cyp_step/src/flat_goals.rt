@@ -325,6 +325,7 @@ fn is_universal(alloc: Global, goal: &Goal, sort: Sort, var: Var) -> Result<bool
     Ok(is_among(var, vars.as_slice()))
 }
 
+/// The set of the variable alone.
 pub(crate) fn set_of(alloc: Global, var: Var) -> Result<SetTerm, NoMemory>
     requires { var.sort ≡ Set }
     ensures { IfOk result (λ u. u ≡ set_var var) }
