@@ -1,6 +1,5 @@
 -- The calls of one companion more.
-use Rattle.std.proofs.Common.{◌≡◌, ◌∙◌, ◌+◌, ◌<◌, ◌≤◌, ◌++◌, ◌∷◌, ℕ, zero, suc, [], List, None, Option, Some, add-one, ap, append-nil, append_assoc, drop, length, option_map, slice_get, sym}
-use Rattle.std.proofs.lemmas.List.{at_drop_all}
+use Rattle.std.proofs.Common.{◌≡◌, ◌∙◌, ◌+◌, ◌++◌, ◌∷◌, ℕ, zero, suc, [], List, Some, add-one, ap, append_assoc, drop, option_map, slice_get, sym}
 use Rattle.cyp_call.specs.CallRows.{call_rules_at}
 use Rattle.cyp_call.specs.CallsOf.{calls_of}
 use Rattle.cyp_heap.specs.declared.goal.Link.{Link}
@@ -21,6 +20,3 @@ module _ (n : Node) (done : List Rule) where
 pub link_turn : (n : Node) (i : ℕ) (done new all : List Rule) → done ++ call_rules_at n i (drop i n.links) ≡ all
     → option_map (λ (l : Link). done ++ calls_of n i l) (slice_get n.links i) ≡ Some new → new ++ call_rules_at n (i + 1) (drop (i + 1) n.links) ≡ all
 link_turn n i done new all h e = ap (λ j. new ++ call_rules_at n j (drop j n.links)) (add-one i) ∙ sym (added n done n.links i i new e) ∙ h
-
-pub links_end : (n : Node) (i : ℕ) (done all : List Rule) → done ++ call_rules_at n i (drop i n.links) ≡ all → length n.links ≤ i → done ≡ all
-links_end n i done all h le = sym (append-nil done) ∙ sym (at_drop_all (λ ls. done ++ call_rules_at n i ls) n.links i le) ∙ h

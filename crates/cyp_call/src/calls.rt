@@ -22,12 +22,7 @@ fn add_calls(link: u8, found: List<Match>, rules: &mut Vec<Rule>) -> Result<(), 
 }
 
 /// Adds the calls of the companion at this place by each of its matches.
-fn add_matches(
-    alloc: Global,
-    node: &Node,
-    link: u8,
-    rules: &mut Vec<Rule>,
-) -> Result<(), NoMemory>
+fn add_matches(alloc: Global, node: &Node, link: u8, rules: &mut Vec<Rule>) -> Result<(), NoMemory>
     requires { link < length node.now.links }
     ensures { OnOk result (option_map (λ l. rules.old.items ++ calls_of node.now link l) (slice_get node.now.links link) ≡ Some rules.new.items) }
 {

@@ -1,10 +1,10 @@
 -- What a call leaves: its instances fit, and where an offset in it is too large the rule has no premises.
-use Rattle.std.proofs.Common.{◌≡◌, ◌∙◌, ◌==◌, ◌≤◌, ◌++◌, ◌||◌, ℕ, suc, Bool, true, false, cond, List, [], ◌∷◌, None, Option, Some, IfSome, IsTrue, ap, length, map, option_map, refl, slice_get, subst, sym, nat_lt}
-use Rattle.std.specs.List.{AllByRecursion, list_all, list_any}
+use Rattle.std.proofs.Common.{◌≡◌, ◌∙◌, ◌==◌, ◌≤◌, ◌||◌, ℕ, suc, Bool, true, false, List, [], ◌∷◌, None, Option, Some, IfSome, IsTrue, ap, length, map, option_map, refl, slice_get, subst, sym, nat_lt}
+use Rattle.std.specs.List.{list_all, list_any}
 use Rattle.std.specs.Option.{option_and_then}
 use Rattle.std.proofs.lemmas.Bool.{cond_both, eqb-true, or_left, or_right}
 use Rattle.std.proofs.lemmas.List.Folds.{list_any-append}
-use Rattle.cyp_goal.proofs.LinksFit.{FitsPost, FitsPre, insts_fit_from, sides_fit}
+use Rattle.cyp_goal.proofs.LinksFit.{insts_fit_from, sides_fit}
 use Rattle.cyp_heap.specs.Chunks.{apply_chunk, kind_rank, put, put_all, wide_chunk}
 use Rattle.cyp_heap.specs.Formed.{insts_fit}
 use Rattle.cyp_heap.specs.Goals.{wide_goal, wide_node}
@@ -20,13 +20,13 @@ use Rattle.cyp_step.proofs.GoalOfNode.{goal_of_node}
 use Rattle.cyp_step.proofs.UnfoldedRaws.{called_fits}
 use Rattle.cyp_step.specs.Called.{bound_at, call_leaves, goal_by, narrow_call, wide_post, with_leaves}
 use Rattle.cyp_step.specs.Calling.{after_call, chunks_beside, is_callable, raw_call, with_new_cards}
-use Rattle.cyp_step.specs.Changes.{Raws, pre_of}
+use Rattle.cyp_step.specs.Changes.{Raws}
 use Rattle.cyp_step.specs.Leaving.{LeavesRaws}
 use Rattle.cyp_step.specs.Nodes.{IsNode}
-use Rattle.cyp_step.specs.Step.{all_normal, raws, renamed_premises}
+use Rattle.cyp_step.specs.Step.{all_normal, raws}
 use Rattle.cyp_step.specs.declared.rule.CallBy.{CallBy}
 use Rattle.cyp_step.specs.declared.rule.Rule.TheVariants.{ByCall}
-use Rattle.cyp_term.specs.Terms.{apply_lit, wide_lit}
+use Rattle.cyp_term.specs.Terms.{wide_lit}
 use Rattle.cyp_term.specs.declared.lit.Lit.{Lit}
 use Rattle.cyp_unify.specs.Matches.{match_at}
 use Rattle.cyp_unify.specs.declared.found.Match.{Match}

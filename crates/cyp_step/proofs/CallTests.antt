@@ -1,7 +1,6 @@
 -- Whether a companion can be called, test by test.
 use Rattle.std.proofs.Common.{◌≡◌, ◌∙◌, ◌&&◌, Bool, List, true, false, ap, is_some, map, refl, sym}
 use Rattle.std.specs.List.{list_all}
-use Rattle.cyp_goal.specs.Facts.{facts}
 use Rattle.cyp_heap.specs.declared.goal.Goal.{Goal}
 use Rattle.cyp_heap.specs.declared.goal.Link.{Link}
 use Rattle.cyp_heap.specs.declared.goal.Node.{Node}

@@ -118,12 +118,7 @@ fn holds(
 }
 
 /// Whether the program can do the stores that the call needs.
-fn can_store(
-    alloc: Global,
-    goal: &Goal,
-    known: &[Lit],
-    found: &Match,
-) -> Result<bool, NoMemory>
+fn can_store(alloc: Global, goal: &Goal, known: &[Lit], found: &Match) -> Result<bool, NoMemory>
     requires { known.now ≡ facts goal.now }
     ensures { IfOk result (λ b. b ≡ is_some (writes_for goal.now found.now)) }
 {

@@ -13,7 +13,9 @@ use crate::next::next_of;
 use crate::placing::put_all;
 use cyp_heap::{Chunk, Goal, Heap, InstOf, Link, Node};
 use cyp_pred::Next;
-use cyp_term::{Copied, Fail, IntBind, List, Lit, NoMemory, SetBind, Sort, Subst, Term, TooWide, Var};
+use cyp_term::{
+    Copied, Fail, IntBind, List, Lit, NoMemory, SetBind, Sort, Subst, Term, TooWide, Var,
+};
 use cyp_unify::Match;
 use std::alloc::Global;
 
@@ -197,12 +199,7 @@ fn has(places: &[u8], place: u8) -> bool
 }
 
 /// Adds a copy of the chunk, unless it goes.
-fn add_kept(
-    alloc: Global,
-    kept: &mut Vec<Chunk>,
-    chunk: &Chunk,
-    goes: bool,
-) -> Result<(), NoMemory>
+fn add_kept(alloc: Global, kept: &mut Vec<Chunk>, chunk: &Chunk, goes: bool) -> Result<(), NoMemory>
     ensures { OnOk result (kept.new.items ≡ kept_unless goes kept.old.items chunk.now) }
 {
     if !goes {
@@ -225,12 +222,7 @@ fn chunks_beside(alloc: Global, chunks: &[Chunk], places: &[u8]) -> Result<List<
 }
 
 /// The heap where the chunks at the places have gone, and these have come.
-fn called_pre(
-    alloc: Global,
-    pre: &Heap,
-    places: &[u8],
-    left: List<Chunk>,
-) -> Result<Heap, NoMemory>
+fn called_pre(alloc: Global, pre: &Heap, places: &[u8], left: List<Chunk>) -> Result<Heap, NoMemory>
     requires { length pre.now.chunks ≤ 16 }
     ensures { IfOk result (λ h. h.chunks ≡ put_all (chunks_beside 0 places.now pre.now.chunks) left) }
 {

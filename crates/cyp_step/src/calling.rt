@@ -35,12 +35,7 @@ fn goal_after(
 }
 
 /// The goal after a call of the companion, which is at the call's place, by the call's pairing.
-fn goal_by(
-    alloc: Global,
-    node: &Node,
-    link: &Link,
-    by: &CallBy,
-) -> Result<Option<Goal>, NoMemory>
+fn goal_by(alloc: Global, node: &Node, link: &Link, by: &CallBy) -> Result<Option<Goal>, NoMemory>
     requires at { slice_get node.now.links by.now.link ≡ Some link.now }
     requires long { length link.now.own ≡ length link.now.tuple }
     requires few { length link.now.goal.post.chunks ≤ 16 }

@@ -27,12 +27,7 @@ fn is_needed(alloc: Global, goal: &Goal, known: &[Lit], mend: Mend) -> Result<bo
 }
 
 /// The stores whose value isn't shown to be there.
-fn needed(
-    alloc: Global,
-    goal: &Goal,
-    known: &[Lit],
-    mends: &[Mend],
-) -> Result<List<Mend>, NoMemory>
+fn needed(alloc: Global, goal: &Goal, known: &[Lit], mends: &[Mend]) -> Result<List<Mend>, NoMemory>
     requires { known.now ≡ facts goal.now }
     ensures { IfOk result (λ ms. ms ≡ filter (is_needed goal.now) mends.now) }
 {
@@ -85,11 +80,7 @@ pub(crate) fn writes(
 
 /// The stores that a call by this match needs before it: those whose value isn't shown to be in the
 /// cell. There are none to be had where the program can't do one of them.
-pub fn writes_for(
-    alloc: Global,
-    node: &Node,
-    found: &Match,
-) -> Result<Option<List<Mend>>, NoMemory>
+pub fn writes_for(alloc: Global, node: &Node, found: &Match) -> Result<Option<List<Mend>>, NoMemory>
     ensures { IfOk result (λ w. w ≡ writes_for node.now.goal found.now) }
 {
     let goal = node.goal();

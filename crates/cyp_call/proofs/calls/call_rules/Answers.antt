@@ -1,4 +1,4 @@
-use Rattle.cyp_call.proofs.CallTurns.{link_turn, links_end}
+use Rattle.cyp_call.proofs.CallTurns.{link_turn}
 use Rattle.cyp_call.proofs.calls.call_rules.Goals as goal
 
 pub loop-link-preserved : goal.loop-link-preserved

@@ -11,13 +11,13 @@ goal_by-requires-clause-few c = few_left c.args.node.now c.link_at.ensures.keeps
 
 pub left-requires : goal.left-requires
 left-requires c =
-    call_fits c.args.node.now c.link_at.ensures.keeps c.args.by.now.link c.in-Some.link.now c.in-Some.ensures.link c.in_ok-goal.goal
-    (match_at c.args.node.now c.in-Some.link.now c.args.by.now.pairs) c.in_ok-goal.ensures
+    call_fits c.args.node.now c.link_at.ensures.keeps c.args.by.now.link c.in-Some.link.now c.in-Some.ensures.link c.in_ok-goal-in-Some.goal
+    (match_at c.args.node.now c.in-Some.link.now c.args.by.now.pairs) c.in_ok-goal-in-Some.ensures
 
 pub returns-in_ok-goal-in-Some : goal.returns-in_ok-goal-in-Some
 returns-in_ok-goal-in-Some c =
     IfOk-weaker c.left.result _ _
-    (λ r is. called_leaves c.args.node.now c.args.by.now c.in-Some.link.now c.in_ok-goal.goal r c.in-Some.ensures.link c.in_ok-goal.ensures is)
+    (λ r is. called_leaves c.args.node.now c.args.by.now c.in-Some.link.now c.in_ok-goal-in-Some.goal r c.in-Some.ensures.link c.in_ok-goal-in-Some.ensures is)
     c.left.ensures
 
 pub returns-in-None : goal.returns-in-None
