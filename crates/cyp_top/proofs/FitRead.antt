@@ -1,6 +1,6 @@
 -- A goal that is read is fit: the chunks of its precondition are in order, and no block has more than 8 cells.
 use Rattle.std.proofs.Common.{List, Ok, [], cond, flat_map, map, refl, subst, true, ◌∙◌, ◌++◌, ◌≡◌, ℕ}
-use Rattle.std.specs.Prelude.{Bool, IsTrue, nat_le}
+use Rattle.std.specs.Prelude.{Bool, nat_le}
 use Rattle.std.specs.List.{list_all}
 use Rattle.std.proofs.lemmas.Bool.{and_parts}
 use Rattle.std.proofs.lemmas.List.Folds.{list_all-map}
@@ -9,8 +9,6 @@ use Rattle.cyp_formed.proofs.FormedPreds.{parts_none}
 use Rattle.cyp_formed.proofs.ReadTrees.{ReadTree, tree_read}
 use Rattle.cyp_formed.specs.LimitFaults.{limit_faults}
 use Rattle.cyp_formed.specs.Reading.{IsReading}
-use Rattle.cyp_heap.specs.Chunks.{in_order}
-use Rattle.cyp_heap.specs.declared.chunk.Chunk.{Chunk}
 use Rattle.cyp_heap.specs.declared.pred.Clause.{Clause}
 use Rattle.cyp_heap.specs.declared.pred.Pred.{Pred}
 use Rattle.cyp_lex.specs.declared.fault.Fault.{Fault}
@@ -20,7 +18,7 @@ use Rattle.cyp_names.specs.Bodies.{in_kinds}
 use Rattle.cyp_names.specs.NameFaults.{clauses, fault_at, name_faults}
 use Rattle.cyp_names.specs.PredFaults.{guard_of, is_pred_within, overlap_faults, pred_limit_faults, size_fault, size_faults, unproductive_fault}
 use Rattle.cyp_names.specs.ReadTerms.{Scope, read_chunk, read_chunks}
-use Rattle.cyp_names.specs.Specifications.{Specification, clause_scope, goal_scope, read_clause, read_goal, read_pred, read_preds, with_cards}
+use Rattle.cyp_names.specs.Specifications.{Specification, clause_scope, goal_scope, read_clause, read_goal, read_pred, read_preds}
 use Rattle.cyp_reading.proofs.CardsGiven.{order_given}
 use Rattle.cyp_reading.proofs.HeapsRead.{heap_in_order}
 use Rattle.cyp_sound.specs.Kept.{are_small, is_small}
