@@ -1,4 +1,4 @@
-use Rattle.std.proofs.Common.{◌∙◌, false, refl, subst, sym}
+use Rattle.std.proofs.Common.{◌∙◌, false, refl, subst, sym, true}
 use Rattle.cyp_top.specs.Answers.{Answers, End}
 use Rattle.cyp_top.specs.Lines.{words_refused}
 use Rattle.cyp_top.proofs.CorrectTexts.{answer_correct, refused_not_program}
