@@ -1,5 +1,7 @@
 pub mod ChainExamples
+pub mod CorrectTexts
 pub mod Examples
+pub mod FitRead
 pub mod ListExamples
 pub mod Outputs
 pub mod Roots

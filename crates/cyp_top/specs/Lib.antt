@@ -1,6 +1,7 @@
 pub mod Answers
 pub mod Chain
 pub mod Code
+pub mod Correctness
 pub mod Given
 pub mod Lines
 pub mod Output

@@ -10,6 +10,6 @@ mod status;
 #[cfg(test)]
 mod tests;
 
-pub use laws::{whole_output_is_one, workers_change_nothing};
+pub use laws::{whole_output_is_one, workers_change_nothing, written_programs_are_correct};
 pub use run::{output_is_one, run_still};
 pub use status::Status;

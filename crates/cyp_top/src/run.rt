@@ -1,8 +1,9 @@
 ghost use Rattle.std.specs.Prelude.{◌≡◌, ◌≢◌, ◌⊎◌, List, map, string_bytes, false, true, ℕ};
 ghost use Rattle.cyp_top.specs.Answers.{Answers, IsSaid, Sends};
+ghost use Rattle.cyp_top.specs.Correctness.{AppendsCorrect};
 ghost use Rattle.cyp_top.specs.Lines.{Output};
 ghost use Rattle.cyp_top.specs.Output.{IsOutput, is_synth};
-ghost use Rattle.cyp_top.specs.declared.status.Status.TheVariants.{Usage, WriteFault};
+ghost use Rattle.cyp_top.specs.declared.status.Status.TheVariants.{Program, Usage, WriteFault};
 
 use crate::answer::synth_answer;
 use crate::status::Status;
@@ -70,6 +71,9 @@ pub fn run_still<S: Source, K: Sink, L: Ledger>(
         record { told = S.left source.new; faults = S.faults source.new }
         record { told = K.taken sink.old; faults = K.faults sink.old }
         record { told = K.taken sink.new; faults = K.faults sink.new } result }
+
+    // Where it answers that there is a program, it wrote the text of one that is correct for what the source told.
+    ensures correct { result ≡ Program → AppendsCorrect (S.left source.old) (K.taken sink.old) (K.taken sink.new) }
 
     // Words that are refused, and no others, give this status, and the source isn't read.
     ensures usage { result ≡ Usage → is_synth (map string_bytes words.now) ≡ false }

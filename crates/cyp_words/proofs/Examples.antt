@@ -1,6 +1,6 @@
 -- Command lines and what they are.
 use Rattle.std.proofs.Common.{refl, ◌≡◌, [], ◌∷◌, None, Some, codes, true, false}
-use Rattle.cyp_words.specs.Words.{Gen, RunOn, Synth, command_of}
+use Rattle.cyp_words.specs.Words.{Gen, RunOn, Synth, command_of, one_worker_command_of}
 
 plain : command_of (codes "synth" ∷ []) ≡ Some (Synth (record { budget = 20000; unfoldings = 2; workers = 1; stats = false }))
 plain = refl
@@ -58,3 +58,9 @@ long_chain = refl
 
 no_chain : command_of (codes "gen" ∷ []) ≡ None
 no_chain = refl
+
+one_worker : one_worker_command_of (codes "synth" ∷ codes "--workers" ∷ codes "1" ∷ []) ≡ None
+one_worker = refl
+
+one_worker_with_budget : one_worker_command_of (codes "synth" ∷ codes "--budget=3" ∷ []) ≡ Some (Synth (record { budget = 3; unfoldings = 2; workers = 1; stats = false }))
+one_worker_with_budget = refl

@@ -1,2 +1,6 @@
+pub mod Commands
+pub mod Matches
 pub mod Options
+pub mod Ready
+pub mod Rules
 pub mod Words

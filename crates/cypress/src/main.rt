@@ -5,8 +5,9 @@ mod words;
 
 ghost use Rattle.std.specs.Prelude.{◌≡◌, ◌⊎◌, false, map, string_bytes};
 ghost use Rattle.cyp_top.specs.Answers.{Answers};
+ghost use Rattle.cyp_top.specs.Correctness.{AppendsCorrect};
 ghost use Rattle.cyp_top.specs.Output.{is_synth};
-ghost use Rattle.cyp_top.specs.declared.status.Status.TheVariants.{Usage, WriteFault};
+ghost use Rattle.cyp_top.specs.declared.status.Status.TheVariants.{Program, Usage, WriteFault};
 
 use crate::words::words_behind;
 use cyp_io::{Sink, Source, StdSink, StdSource};
@@ -34,6 +35,7 @@ fn run_uncounted<L: Ledger, S: Source, K: Sink>(
         record { told = S.left source.new; faults = S.faults source.new }
         record { told = K.taken sink.old; faults = K.faults sink.old }
         record { told = K.taken sink.new; faults = K.faults sink.new } result }
+    ensures correct { result ≡ Program → AppendsCorrect (S.left source.old) (K.taken sink.old) (K.taken sink.new) }
     ensures usage { result ≡ Usage → is_synth (map string_bytes words.now) ≡ false }
     ensures refused { is_synth (map string_bytes words.now) ≡ false → (result ≡ Usage) ⊎ (result ≡ WriteFault) }
     ensures unread { is_synth (map string_bytes words.now) ≡ false → source.new ≡ source.old }
