@@ -27,11 +27,12 @@ fn add_outer(exist: &[Var], var: Var, vars: &mut Vec<Var>) -> Result<(), NoMemor
 fn outer_vars(alloc: Global, node: &Node) -> Result<Vec<Var>, NoMemory>
     ensures { IfOk result (λ vs. vs.items ≡ filter (λ v. not (var_in v node.now.goal.exist)) (node_vars node.now)) }
 {
-    let all = vars_of_node(alloc, node)?;
+    let found = vars_of_node(alloc, node)?;
+    let all = found.as_slice();
     let exist = node.goal().exist.as_slice();
     let mut vars = Vec::new(alloc);
-    for var in all.as_slice() {
-        add_outer(exist, *var, &mut vars)?;
+    for place in 0..all.len() {
+        add_outer(exist, all[place], &mut vars)?;
     }
     Ok(vars)
 }
