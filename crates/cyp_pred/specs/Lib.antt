@@ -1,2 +1,1 @@
 pub mod Unfold
-pub mod Unfoldable

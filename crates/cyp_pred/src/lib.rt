@@ -2,7 +2,5 @@
 #![tactic(auto)]
 
 mod unfolded;
-mod unfolding;
 
 pub use unfolded::{Next, Unfolded};
-pub use unfolding::{unfold, unfold_one};
