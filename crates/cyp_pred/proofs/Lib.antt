@@ -4,4 +4,3 @@ pub mod LowNumbers
 pub mod Ready
 pub mod Tagged
 mod Examples
-pub mod LowNumbers

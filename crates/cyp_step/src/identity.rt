@@ -14,11 +14,11 @@ use cyp_term::{IntBind, List, NoMemory, SetBind, Sort, Subst, Term, Var};
 use std::alloc::Global;
 
 /// Adds the variable at the end, unless it is an existential or is there.
-fn add_outer(exist: &[Var], var: Var, vars: &mut Vec<Var>) -> Result<(), NoMemory>
-    ensures { OnOk result (vars.new.items ≡ cond (not (var_in var exist.now)) (with_new var_eq vars.old.items var) vars.old.items) }
+fn add_outer(exist: &[Var], var: &Var, vars: &mut Vec<Var>) -> Result<(), NoMemory>
+    ensures { OnOk result (vars.new.items ≡ cond (not (var_in var.now exist.now)) (with_new var_eq vars.old.items var.now) vars.old.items) }
 {
-    if !is_among(var, exist) && !is_among(var, vars.as_slice()) {
-        vars.push(var)?;
+    if !is_among(*var, exist) && !is_among(*var, vars.as_slice()) {
+        vars.push(*var)?;
     }
     Ok(())
 }
@@ -27,11 +27,12 @@ fn add_outer(exist: &[Var], var: Var, vars: &mut Vec<Var>) -> Result<(), NoMemor
 fn outer_vars(alloc: Global, node: &Node) -> Result<Vec<Var>, NoMemory>
     ensures { IfOk result (λ vs. vs.items ≡ filter (λ v. not (var_in v node.now.goal.exist)) (node_vars node.now)) }
 {
-    let all = vars_of_node(alloc, node)?;
+    let found = vars_of_node(alloc, node)?;
+    let all = found.as_slice();
     let exist = node.goal().exist.as_slice();
     let mut vars = Vec::new(alloc);
-    for var in all.as_slice() {
-        add_outer(exist, *var, &mut vars)?;
+    for place in 0..all.len() {
+        add_outer(exist, &all[place], &mut vars)?;
     }
     Ok(vars)
 }

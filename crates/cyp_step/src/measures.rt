@@ -14,7 +14,7 @@ use std::alloc::Global;
 fn last_tuple(alloc: Global, links: &[Link]) -> Result<List<Term>, NoMemory>
     ensures { IfOk result (λ ts. ts ≡ last_tuple links.now) }
 {
-    if links.is_empty() {
+    if links.len() == 0 {
         return Ok(List::from_vec(Vec::new(alloc)));
     }
     links[links.len() - 1].tuple.copy(alloc)

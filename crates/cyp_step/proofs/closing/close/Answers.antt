@@ -45,7 +45,7 @@ pub returns-in_default-2 : goal.returns-in_default-2
 returns-in_default-2 c =
     let n = c.args.node.now in
     let at = (inst_there 0 c.chunks.result.now (post_of c.args.node.now) _ (c.chunks.ensures.chunks ∙ ap (λ (g : Goal). g.post.chunks) c.goal-goal.ensures.goal) c.inst_in.ensures c.in-Some.inst.now (ap (option_map (λ (r : Bor InstOf). r.now)) c.in-Some.is)) in
-    no_entry n c.args.clause c.in-Some.inst.now at (entry_missing n c.args.clause c.in-Some.inst.now c.in_ok-next.next c.in_ok-next.ensures.next _ c.in_ok-one_entry.ensures (none_from _ c.in_default-2.not-Some))
+    no_entry n c.args.clause c.in-Some.inst.now at (entry_missing n c.args.clause c.in-Some.inst.now c.in_ok-next.next c.in_ok-next.ensures.next _ c.in_ok-entry.ensures (none_from _ c.in_default-2.not-Some))
 
 pub closed_goal-requires : goal.closed_goal-requires
 closed_goal-requires c =
@@ -57,10 +57,10 @@ pub left-requires : goal.left-requires
 left-requires c =
     let n = c.args.node.now in
     let at = (inst_there 0 c.chunks.result.now (post_of c.args.node.now) _ (c.chunks.ensures.chunks ∙ ap (λ (g : Goal). g.post.chunks) c.goal-goal.ensures.goal) c.inst_in.ensures c.in-Some.inst.now (ap (option_map (λ (r : Bor InstOf). r.now)) c.in-Some.is)) in
-    for_some (λ h. IsTrue (insts_fit n.preds h)) (Some c.in_ok-closed.closed) (fit_closed n c.args.clause c.in-Some.inst.now c.in_ok-next.next c.in_ok-next.ensures.next at (sym c.can_be_raised.ensures ∙ c.if-not-can_be_raised.false) c.in-Some-2.entry (entry_there n c.args.clause c.in-Some.inst.now c.in_ok-next.next c.in_ok-next.ensures.next _ c.in-Some-2.entry c.in_ok-one_entry.ensures c.in-Some-2.is) c.in_ok-closed.closed c.goal-goal.result.now c.goal-goal.ensures.goal c.in_ok-closed.ensures c.goal-goal.ensures.keeps c.get.result.now (c.get.ensures ∙ c.preds.ensures.preds) c.list-formed.ensures.formed)
+    for_some (λ h. IsTrue (insts_fit n.preds h)) (Some c.in_ok-closed.closed) (fit_closed n c.args.clause c.in-Some.inst.now c.in_ok-next.next c.in_ok-next.ensures.next at (sym c.can_be_raised.ensures ∙ c.if-not-can_be_raised.false) c.in-Some-2.entry (entry_there n c.args.clause c.in-Some.inst.now c.in_ok-next.next c.in_ok-next.ensures.next _ c.in-Some-2.entry c.in_ok-entry.ensures c.in-Some-2.is) c.in_ok-closed.closed c.goal-goal.result.now c.goal-goal.ensures.goal c.in_ok-closed.ensures c.goal-goal.ensures.keeps c.get.result.now (c.get.ensures ∙ c.preds.ensures.preds) c.list-formed.ensures.formed)
 
 pub returns : goal.returns
 returns c =
     let n = c.args.node.now in
     let at = (inst_there 0 c.chunks.result.now (post_of c.args.node.now) _ (c.chunks.ensures.chunks ∙ ap (λ (g : Goal). g.post.chunks) c.goal-goal.ensures.goal) c.inst_in.ensures c.in-Some.inst.now (ap (option_map (λ (r : Bor InstOf). r.now)) c.in-Some.is)) in
-    left_as n (ByClose c.args.clause) (Some (record n { goal = c.in_ok-closed.closed } ∷ [])) c.left.result (closed_as n c.args.clause c.in-Some.inst.now c.in_ok-next.next c.in_ok-next.ensures.next at (sym c.can_be_raised.ensures ∙ c.if-not-can_be_raised.false) c.in-Some-2.entry (entry_there n c.args.clause c.in-Some.inst.now c.in_ok-next.next c.in_ok-next.ensures.next _ c.in-Some-2.entry c.in_ok-one_entry.ensures c.in-Some-2.is) c.in_ok-closed.closed c.goal-goal.result.now c.goal-goal.ensures.goal c.in_ok-closed.ensures) c.left.ensures
+    left_as n (ByClose c.args.clause) (Some (record n { goal = c.in_ok-closed.closed } ∷ [])) c.left.result (closed_as n c.args.clause c.in-Some.inst.now c.in_ok-next.next c.in_ok-next.ensures.next at (sym c.can_be_raised.ensures ∙ c.if-not-can_be_raised.false) c.in-Some-2.entry (entry_there n c.args.clause c.in-Some.inst.now c.in_ok-next.next c.in_ok-next.ensures.next _ c.in-Some-2.entry c.in_ok-entry.ensures c.in-Some-2.is) c.in_ok-closed.closed c.goal-goal.result.now c.goal-goal.ensures.goal c.in_ok-closed.ensures) c.left.ensures

@@ -4,6 +4,6 @@ use Rattle.cyp_step.proofs.OuterVars.{is_outer}
 use Rattle.cyp_term.specs.Terms.{var_eq, with_all_new}
 use Rattle.cyp_step.proofs.identity.outer_vars.Given as goal
 
-abbrev pub invariant-loop-var : goal.invariant-loop-var
-invariant-loop-var l =
-    with_all_new var_eq l.vars.items (filter (is_outer l.exist) (drop l.var-index l.var-items)) ≡ filter (is_outer l.node.goal.exist) (node_vars l.node)
+abbrev pub invariant-loop-place : goal.invariant-loop-place
+invariant-loop-place l =
+    with_all_new var_eq l.vars.items (filter (is_outer l.exist) (drop l.place l.all)) ≡ filter (is_outer l.node.goal.exist) (node_vars l.node)

@@ -40,18 +40,18 @@ pub returns-in_default-2 : goal.returns-in_default-2
 returns-in_default-2 c =
     let n = c.args.node.now in
     let at = (inst_there c.args.place c.chunks.result.now (pre_of c.args.node.now) _ (c.chunks.ensures.chunks ∙ ap (λ (g : Goal). g.pre.chunks) c.goal.ensures.goal) c.inst_in.ensures c.in-Some.inst.now (ap (option_map (λ (r : Bor InstOf). r.now)) c.in-Some.is)) in
-    opened_wide n c.args.place c.in-Some.inst.now at (entries_wide n c.args.place c.in-Some.inst.now at c.in_ok-next.next c.in_ok-next.ensures.next _ c.in_ok-all_entries.ensures (none_from _ c.in_default-2.not-Some))
+    opened_wide n c.args.place c.in-Some.inst.now at (entries_wide n c.args.place c.in-Some.inst.now at c.in_ok-next.next c.in_ok-next.ensures.next _ c.in_ok-entries.ensures (none_from _ c.in_default-2.not-Some))
 
 pub returns-then-not-are_testable : goal.returns-then-not-are_testable
 returns-then-not-are_testable c =
     let n = c.args.node.now in
     let at = (inst_there c.args.place c.chunks.result.now (pre_of c.args.node.now) _ (c.chunks.ensures.chunks ∙ ap (λ (g : Goal). g.pre.chunks) c.goal.ensures.goal) c.inst_in.ensures c.in-Some.inst.now (ap (option_map (λ (r : Bor InstOf). r.now)) c.in-Some.is)) in
-    not_tested n c.args.place c.in-Some.inst.now at (sym (tested_as n c.args.place c.in-Some.inst.now at c.in_ok-next.next c.in_ok-next.ensures.next c.in-Some-2.entries (entries_are n c.args.place c.in-Some.inst.now at c.in_ok-next.next c.in_ok-next.ensures.next _ c.in-Some-2.entries c.in_ok-all_entries.ensures c.in-Some-2.is) c.goal-2.result.now c.as_slice.result.now c.are_testable.result c.goal-2.ensures.goal c.as_slice.ensures c.are_testable.ensures) ∙ c.if-not-are_testable.true)
+    not_tested n c.args.place c.in-Some.inst.now at (sym (tested_as n c.args.place c.in-Some.inst.now at c.in_ok-next.next c.in_ok-next.ensures.next c.in-Some-2.entries (entries_are n c.args.place c.in-Some.inst.now at c.in_ok-next.next c.in_ok-next.ensures.next _ c.in-Some-2.entries c.in_ok-entries.ensures c.in-Some-2.is) c.goal-2.result.now c.as_slice.result.now c.are_testable.result c.goal-2.ensures.goal c.as_slice.ensures c.are_testable.ensures) ∙ c.if-not-are_testable.true)
 
 pub open_link-requires : goal.open_link-requires
 open_link-requires c =
     let n = c.args.node.now in
-    (inst_there c.args.place c.chunks.result.now (pre_of c.args.node.now) _ (c.chunks.ensures.chunks ∙ ap (λ (g : Goal). g.pre.chunks) c.goal.ensures.goal) c.inst_in.ensures c.in-Some.inst.now (ap (option_map (λ (r : Bor InstOf). r.now)) c.in-Some.is))
+    record { at = inst_there c.args.place c.chunks.result.now (pre_of c.args.node.now) _ (c.chunks.ensures.chunks ∙ ap (λ (g : Goal). g.pre.chunks) c.goal.ensures.goal) c.inst_in.ensures c.in-Some.inst.now (ap (option_map (λ (r : Bor InstOf). r.now)) c.in-Some.is) }
 
 pub open_premises-requires-clause-place : goal.open_premises-requires-clause-place
 open_premises-requires-clause-place c =
@@ -63,10 +63,10 @@ pub open_premises-requires-clause-fits : goal.open_premises-requires-clause-fits
 open_premises-requires-clause-fits c =
     let n = c.args.node.now in
     let at = (inst_there c.args.place c.chunks.result.now (pre_of c.args.node.now) _ (c.chunks.ensures.chunks ∙ ap (λ (g : Goal). g.pre.chunks) c.goal.ensures.goal) c.inst_in.ensures c.in-Some.inst.now (ap (option_map (λ (r : Bor InstOf). r.now)) c.in-Some.is)) in
-    fit_each n c.args.place c.in-Some.inst.now at c.in_ok-next.next c.in_ok-next.ensures.next c.in-Some-2.entries (entries_are n c.args.place c.in-Some.inst.now at c.in_ok-next.next c.in_ok-next.ensures.next _ c.in-Some-2.entries c.in_ok-all_entries.ensures c.in-Some-2.is) (sym c.has_room.ensures ∙ c.if-not-has_room.false) (sym (tested_as n c.args.place c.in-Some.inst.now at c.in_ok-next.next c.in_ok-next.ensures.next c.in-Some-2.entries (entries_are n c.args.place c.in-Some.inst.now at c.in_ok-next.next c.in_ok-next.ensures.next _ c.in-Some-2.entries c.in_ok-all_entries.ensures c.in-Some-2.is) c.goal-2.result.now c.as_slice.result.now c.are_testable.result c.goal-2.ensures.goal c.as_slice.ensures c.are_testable.ensures) ∙ c.if-not-are_testable.false) c.in_ok-link.link c.in_ok-link.ensures c.goal.ensures.keeps c.get.result.now (c.get.ensures ∙ c.preds.ensures.preds) c.list-formed.ensures.formed
+    fit_each n c.args.place c.in-Some.inst.now at c.in_ok-next.next c.in_ok-next.ensures.next c.in-Some-2.entries (entries_are n c.args.place c.in-Some.inst.now at c.in_ok-next.next c.in_ok-next.ensures.next _ c.in-Some-2.entries c.in_ok-entries.ensures c.in-Some-2.is) (sym c.has_room.ensures ∙ c.if-not-has_room.false) (sym (tested_as n c.args.place c.in-Some.inst.now at c.in_ok-next.next c.in_ok-next.ensures.next c.in-Some-2.entries (entries_are n c.args.place c.in-Some.inst.now at c.in_ok-next.next c.in_ok-next.ensures.next _ c.in-Some-2.entries c.in_ok-entries.ensures c.in-Some-2.is) c.goal-2.result.now c.as_slice.result.now c.are_testable.result c.goal-2.ensures.goal c.as_slice.ensures c.are_testable.ensures) ∙ c.if-not-are_testable.false) c.in_ok-link.link c.in_ok-link.ensures c.goal.ensures.keeps c.get.result.now (c.get.ensures ∙ c.preds.ensures.preds) c.list-formed.ensures.formed
 
 pub returns : goal.returns
 returns c =
     let n = c.args.node.now in
     let at = (inst_there c.args.place c.chunks.result.now (pre_of c.args.node.now) _ (c.chunks.ensures.chunks ∙ ap (λ (g : Goal). g.pre.chunks) c.goal.ensures.goal) c.inst_in.ensures c.in-Some.inst.now (ap (option_map (λ (r : Bor InstOf). r.now)) c.in-Some.is)) in
-    opened_as n c.args.place c.in-Some.inst.now at c.in_ok-next.next c.in_ok-next.ensures.next c.in-Some-2.entries (entries_are n c.args.place c.in-Some.inst.now at c.in_ok-next.next c.in_ok-next.ensures.next _ c.in-Some-2.entries c.in_ok-all_entries.ensures c.in-Some-2.is) (sym c.has_room.ensures ∙ c.if-not-has_room.false) (sym (tested_as n c.args.place c.in-Some.inst.now at c.in_ok-next.next c.in_ok-next.ensures.next c.in-Some-2.entries (entries_are n c.args.place c.in-Some.inst.now at c.in_ok-next.next c.in_ok-next.ensures.next _ c.in-Some-2.entries c.in_ok-all_entries.ensures c.in-Some-2.is) c.goal-2.result.now c.as_slice.result.now c.are_testable.result c.goal-2.ensures.goal c.as_slice.ensures c.are_testable.ensures) ∙ c.if-not-are_testable.false) c.in_ok-link.link c.in_ok-link.ensures c.in_ok-open_premises.field-0 c.in_ok-open_premises.ensures
+    opened_as n c.args.place c.in-Some.inst.now at c.in_ok-next.next c.in_ok-next.ensures.next c.in-Some-2.entries (entries_are n c.args.place c.in-Some.inst.now at c.in_ok-next.next c.in_ok-next.ensures.next _ c.in-Some-2.entries c.in_ok-entries.ensures c.in-Some-2.is) (sym c.has_room.ensures ∙ c.if-not-has_room.false) (sym (tested_as n c.args.place c.in-Some.inst.now at c.in_ok-next.next c.in_ok-next.ensures.next c.in-Some-2.entries (entries_are n c.args.place c.in-Some.inst.now at c.in_ok-next.next c.in_ok-next.ensures.next _ c.in-Some-2.entries c.in_ok-entries.ensures c.in-Some-2.is) c.goal-2.result.now c.as_slice.result.now c.are_testable.result c.goal-2.ensures.goal c.as_slice.ensures c.are_testable.ensures) ∙ c.if-not-are_testable.false) c.in_ok-link.link c.in_ok-link.ensures c.in_ok-open_premises.field-0 c.in_ok-open_premises.ensures
