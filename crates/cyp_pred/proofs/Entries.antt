@@ -1,5 +1,5 @@
 -- Entries of clauses: when they are wide, and the one at a place.
-use Rattle.std.proofs.Common.{◌≡◌, ◌∙◌, refl, ap, sym, arith, ℕ, ◌+◌, ◌<◌, ◌≤◌, Bool, true, false, ◌||◌, List, [], ◌∷◌, ◌++◌, None, Option, Some, Ok, Err, Result, get_or, length, map, option_map}
+use Rattle.std.proofs.Common.{◌≡◌, ◌∙◌, refl, ap, sym, arith, ℕ, suc, ◌+◌, ◌<◌, ◌≤◌, Bool, true, false, ◌||◌, List, [], ◌∷◌, ◌++◌, None, Option, Some, Ok, Err, Result, get_or, length, map, option_map}
 use Rattle.std.proofs.lemmas.List.{length-map}
 use Rattle.std.proofs.lemmas.List.Folds.{list_any-append}
 use Rattle.std.proofs.lemmas.Option.{slice_get-map, slice_get_past, slice_get_read}
@@ -30,7 +30,7 @@ wide_made i next c =
     let lits : list_any wide_lit (c.lits ++ more) ≡ list_any wide_lit c.lits =
     list_any-append wide_lit c.lits more ∙ ap (λ b. list_any wide_lit c.lits || b) (wide_below i.card (count_from next.cards (length (insts c.heap.chunks)))) ∙ or_none (list_any wide_lit c.lits) in
     ap (λ b. wide_lit c.guard || b || list_any wide_chunk (entry i next c).heap.chunks) lits
-    ∙ ap (λ b. wide_lit c.guard || list_any wide_lit c.lits || b) (wide_with_tags i.card (1 + i.tag) next.cards c.heap.chunks)
+    ∙ ap (λ b. wide_lit c.guard || list_any wide_lit c.lits || b) (wide_with_tags i.card (suc i.tag) next.cards c.heap.chunks)
 
 module _ (i : InstOf) (next : Next) where
   -- the entry of the applied clause is the clause's
