@@ -2,7 +2,7 @@
 use Rattle.std.proofs.Common.{◌≡◌, ◌∙◌, refl, ap, sym, arith, ℕ, suc, ◌+◌, ◌<◌, ◌≤◌, Bool, true, false, ◌||◌, List, [], ◌∷◌, ◌++◌, None, Option, Some, Ok, Err, Result, get_or, length, map, option_map, take}
 use Rattle.std.proofs.lemmas.List.{length-map, map-append, take_more}
 use Rattle.std.proofs.lemmas.List.Folds.{list_any-append}
-use Rattle.std.proofs.lemmas.Option.{slice_get-map, slice_get_past, slice_get_read}
+use Rattle.std.proofs.lemmas.Option.{slice_get-map, slice_get_read}
 use Rattle.std.specs.List.{list_any, slice_get}
 use Rattle.cyp_heap.specs.Chunks.{insts, wide_chunk}
 use Rattle.cyp_heap.specs.declared.chunk.InstOf.{InstOf}
@@ -64,16 +64,8 @@ module _ (i : InstOf) (next : Next) where
 
   -- ---- the entry at a place
 
-  none_at : (cs : List Clause) (k : ℕ) → length cs ≤ k → slice_get (map (unfold_clause i next) cs) k ≡ None
-  none_at cs k le = slice_get-map (unfold_clause i next) cs k ∙ ap (option_map (unfold_clause i next)) (slice_get_past cs k le)
-
   some_at : (cs : List Clause) (k : ℕ) (c : Clause) → k < length cs → c ≡ get_or cs k c → slice_get (map (unfold_clause i next) cs) k ≡ Some (unfold_clause i next c)
   some_at cs k c lt is = slice_get-map (unfold_clause i next) cs k ∙ ap (option_map (unfold_clause i next)) (slice_get_read cs (length cs) k c refl lt is)
-
-  pub past_last : (cs ds : List Clause) (k : ℕ) → cs ≡ ds → length cs ≤ k → (wide_entry (slice_get (map (unfold_clause i next) ds) k) ≡ false) × (None ≡ slice_get (map (unfold_clause i next) ds) k)
-  past_last cs ds k same le =
-      let none : slice_get (map (unfold_clause i next) ds) k ≡ None = none_at ds k (rw (← same) le) in
-      (ap wide_entry none, sym none)
 
   pub one_made : (cs ds : List Clause) (k : ℕ) (c : Clause) (u : Unfolded) → cs ≡ ds → k < length cs → c ≡ get_or cs k c
       → (wide_unfolded (unfold_clause i next c) ≡ false) × (u ≡ unfold_clause i next c)
