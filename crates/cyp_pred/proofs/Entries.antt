@@ -1,8 +1,8 @@
 -- Entries of clauses: when they are wide, and the one at a place.
-use Rattle.std.proofs.Common.{◌≡◌, ◌∙◌, refl, ap, sym, arith, ℕ, ◌+◌, ◌<◌, ◌≤◌, Bool, true, false, ◌||◌, List, [], ◌∷◌, ◌++◌, None, Option, Some, Ok, Err, Result, get_or, length, map, option_map}
-use Rattle.std.proofs.lemmas.List.{length-map}
+use Rattle.std.proofs.Common.{◌≡◌, ◌∙◌, refl, ap, sym, arith, ℕ, suc, ◌+◌, ◌<◌, ◌≤◌, Bool, true, false, ◌||◌, List, [], ◌∷◌, ◌++◌, None, Option, Some, Ok, Err, Result, get_or, length, map, option_map, take}
+use Rattle.std.proofs.lemmas.List.{length-map, map-append, take_more}
 use Rattle.std.proofs.lemmas.List.Folds.{list_any-append}
-use Rattle.std.proofs.lemmas.Option.{slice_get-map, slice_get_past, slice_get_read}
+use Rattle.std.proofs.lemmas.Option.{slice_get-map, slice_get_read}
 use Rattle.std.specs.List.{list_any, slice_get}
 use Rattle.cyp_heap.specs.Chunks.{insts, wide_chunk}
 use Rattle.cyp_heap.specs.declared.chunk.InstOf.{InstOf}
@@ -23,6 +23,17 @@ or_none : (b : Bool) → (b || false) ≡ b
 or_none true = refl
 or_none false = refl
 
+-- one more item's image behind those before it, none of which passes the test
+pub one_more : {X Y : Type 0} (f : X → Y) (test : Y → Bool) (xs : List X) (k : ℕ) (x : X) (y : Y) (made new : List Y) → k < length xs → x ≡ get_or xs k x
+    → (test (f x) ≡ false) × (y ≡ f x) → new ≡ made ++ y ∷ [] → made ≡ map f (take k xs) → list_any test (map f (take k xs)) ≡ false
+    → (new ≡ map f (take (k + 1) xs)) × (list_any test (map f (take (k + 1) xs)) ≡ false)
+one_more f test xs k x y made new lt is one push before narrow =
+    let grown : map f (take (k + 1) xs) ≡ map f (take k xs) ++ f x ∷ [] = ap (map f) (take_more xs k x lt ∙ ap (λ z. take k xs ++ z ∷ []) (sym is)) ∙ map-append f (take k xs) (x ∷ []) in
+    (
+      push ∙ ap (λ ys. ys ++ y ∷ []) before ∙ ap (λ z. map f (take k xs) ++ z ∷ []) one.1 ∙ sym grown,
+      ap (list_any test) grown ∙ list_any-append test (map f (take k xs)) (f x ∷ []) ∙ ap (λ b. b || (test (f x) || false)) narrow ∙ or_none (test (f x)) ∙ one.0,
+    )
+
 -- tags and comparisons of cardinalities widen nothing
 pub wide_made : (i : InstOf) (next : Next) (c : Clause) → wide_unfolded (entry i next c) ≡ wide_clause c
 wide_made i next c =
@@ -30,7 +41,7 @@ wide_made i next c =
     let lits : list_any wide_lit (c.lits ++ more) ≡ list_any wide_lit c.lits =
     list_any-append wide_lit c.lits more ∙ ap (λ b. list_any wide_lit c.lits || b) (wide_below i.card (count_from next.cards (length (insts c.heap.chunks)))) ∙ or_none (list_any wide_lit c.lits) in
     ap (λ b. wide_lit c.guard || b || list_any wide_chunk (entry i next c).heap.chunks) lits
-    ∙ ap (λ b. wide_lit c.guard || list_any wide_lit c.lits || b) (wide_with_tags i.card (1 + i.tag) next.cards c.heap.chunks)
+    ∙ ap (λ b. wide_lit c.guard || list_any wide_lit c.lits || b) (wide_with_tags i.card (suc i.tag) next.cards c.heap.chunks)
 
 module _ (i : InstOf) (next : Next) where
   -- the entry of the applied clause is the clause's
@@ -53,16 +64,8 @@ module _ (i : InstOf) (next : Next) where
 
   -- ---- the entry at a place
 
-  none_at : (cs : List Clause) (k : ℕ) → length cs ≤ k → slice_get (map (unfold_clause i next) cs) k ≡ None
-  none_at cs k le = slice_get-map (unfold_clause i next) cs k ∙ ap (option_map (unfold_clause i next)) (slice_get_past cs k le)
-
   some_at : (cs : List Clause) (k : ℕ) (c : Clause) → k < length cs → c ≡ get_or cs k c → slice_get (map (unfold_clause i next) cs) k ≡ Some (unfold_clause i next c)
   some_at cs k c lt is = slice_get-map (unfold_clause i next) cs k ∙ ap (option_map (unfold_clause i next)) (slice_get_read cs (length cs) k c refl lt is)
-
-  pub past_last : (cs ds : List Clause) (k : ℕ) → cs ≡ ds → length cs ≤ k → (wide_entry (slice_get (map (unfold_clause i next) ds) k) ≡ false) × (None ≡ slice_get (map (unfold_clause i next) ds) k)
-  past_last cs ds k same le =
-      let none : slice_get (map (unfold_clause i next) ds) k ≡ None = none_at ds k (rw (← same) le) in
-      (ap wide_entry none, sym none)
 
   pub one_made : (cs ds : List Clause) (k : ℕ) (c : Clause) (u : Unfolded) → cs ≡ ds → k < length cs → c ≡ get_or cs k c
       → (wide_unfolded (unfold_clause i next c) ≡ false) × (u ≡ unfold_clause i next c)

@@ -74,6 +74,16 @@ pub with_tags_first : (card : Option Var) (tag n : ℕ) (cs : List Chunk) → wi
 with_tags_first None tag n cs = with_tags_none tag 0 n cs
 with_tags_first (Some v) tag n cs = refl
 
+-- what the code makes, from the first number on, is what the definition makes
+pub tagged_is : (card : Option Var) (tag t n m : ℕ) (cs ds es : List Chunk) → t ≡ suc tag → m ≡ first_number card n → ds ≡ with_tags card t m cs → cs ≡ es
+    → ds ≡ with_tags card (suc tag) n es
+tagged_is card tag t n m cs ds es next first made same =
+    made
+    ∙ ap (λ k. with_tags card k m cs) next
+    ∙ ap (λ k. with_tags card (suc tag) k cs) first
+    ∙ ap (λ xs. with_tags card (suc tag) (first_number card n) xs) same
+    ∙ with_tags_first card (suc tag) n es
+
 -- tags widen nothing
 pub wide_with_tags : (card : Option Var) (tag n : ℕ) (cs : List Chunk) → list_any wide_chunk (with_tags card tag n cs) ≡ list_any wide_chunk cs
 wide_with_tags card tag n [] = refl
