@@ -2,7 +2,6 @@
 
 ghost use Rattle.std.specs.Prelude.{IfOk, OnOk, length, map, option_to_list, ◌++◌, ◌≡◌, ◌≤◌};
 ghost use Rattle.cyp_flat.specs.ChunkRules.{rule_at};
-ghost use Rattle.cyp_step.specs.RuleKinds.{CallsNothing};
 ghost use Rattle.cyp_step.specs.Rows.{least_allowed, pre_places, rows};
 
 use cyp_heap::Node;
@@ -22,8 +21,7 @@ pub(crate) enum ChunkRule {
 impl ChunkRule {
     /// The rule at the chunk with this place.
     fn at(self, place: u8) -> Rule
-        ensures rule { result ≡ rule_at self place }
-        ensures kind { CallsNothing result }
+        ensures { result ≡ rule_at self place }
     {
         match self {
             ChunkRule::Read => Rule::ByRead(place),

@@ -4,5 +4,7 @@
 mod bindings;
 mod subinstances;
 mod unfolded;
+mod unfolding;
 
 pub use unfolded::{Next, Unfolded};
+pub use unfolding::{unfold, unfold_one};

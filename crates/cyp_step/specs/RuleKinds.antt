@@ -1,4 +1,4 @@
--- The rules that unfold and call nothing, and those that call nothing.
+-- The rules that unfold and call nothing.
 use Rattle.cyp_step.specs.declared.rule.Rule.{Rule}
 use Rattle.cyp_step.specs.declared.rule.Rule.TheVariants.{ByCall, ByClose, ByOpen}
 
@@ -8,8 +8,3 @@ IsFlatRule (ByCall c) = ⊥
 IsFlatRule (ByOpen i) = ⊥
 IsFlatRule (ByClose c) = ⊥
 IsFlatRule _ = Unit {0}
-
--- it calls no companion
-abbrev pub CallsNothing : Rule → Type 0
-CallsNothing (ByCall c) = ⊥
-CallsNothing _ = Unit {0}

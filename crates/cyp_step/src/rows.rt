@@ -3,7 +3,6 @@
 ghost use Rattle.std.specs.Prelude.{IfOk, OnOk, ◌++◌, ◌≡◌, ◌∷◌, []};
 ghost use Rattle.std.specs.List.{All, list_any};
 ghost use Rattle.cyp_heap.specs.declared.goal.Node.{Node as TheNode};
-ghost use Rattle.cyp_step.specs.RuleKinds.{CallsNothing};
 ghost use Rattle.cyp_step.specs.Rows.{row, rows};
 ghost use Rattle.cyp_step.specs.Shown.{dead};
 ghost use Rattle.cyp_step.specs.Step.{nodes_of};
@@ -53,7 +52,6 @@ fn has_dead(alloc: Global, nodes: &[Shared<Node>]) -> Result<bool, NoMemory>
 
 /// Tries a rule at a node.
 pub fn try_rule(alloc: Global, node: &Node, rule: Rule) -> Result<Tried, NoMemory>
-    requires { CallsNothing rule }
     ensures { IfOk result (λ t. t ≡ tried node.now rule) }
 {
     let Some(renamed) = premises_of(alloc, node, &rule)? else {
@@ -68,7 +66,6 @@ pub fn try_rule(alloc: Global, node: &Node, rule: Rule) -> Result<Tried, NoMemor
 
 /// The row of a rule, unless the rule isn't allowed or one of its premises is dead.
 pub fn row(alloc: Global, node: &Node, rule: Rule) -> Result<Option<Row>, NoMemory>
-    requires { CallsNothing rule }
     ensures { IfOk result (λ r. r ≡ row node.now rule) }
 {
     match try_rule(alloc, node, rule)? {
@@ -79,7 +76,6 @@ pub fn row(alloc: Global, node: &Node, rule: Rule) -> Result<Option<Row>, NoMemo
 
 /// Adds the row of a rule, where it has one.
 pub fn add_row(alloc: Global, node: &Node, rule: Rule, table: &mut Vec<Row>) -> Result<(), NoMemory>
-    requires { CallsNothing rule }
     ensures { OnOk result (table.new.items ≡ table.old.items ++ rows node.now (rule ∷ [])) }
 {
     if let Some(row) = row(alloc, node, rule)? {
@@ -90,7 +86,6 @@ pub fn add_row(alloc: Global, node: &Node, rule: Rule, table: &mut Vec<Row>) -> 
 
 /// The rows of the rules in order, leaving out each rule that has no row.
 pub fn rows_of(alloc: Global, node: &Node, rules: List<Rule>) -> Result<List<Row>, NoMemory>
-    requires { All CallsNothing rules }
     ensures { IfOk result (λ rs. rs ≡ rows node.now rules) }
 {
     let mut table = Vec::new(alloc);

@@ -6,9 +6,10 @@ ghost use Rattle.cyp_goal.specs.Normal.{normal};
 ghost use Rattle.cyp_heap.specs.Formed.{IsWellLinked};
 ghost use Rattle.cyp_heap.specs.Goals.{wide_node};
 ghost use Rattle.cyp_step.specs.Leaving.{LeavesRaws};
-ghost use Rattle.cyp_step.specs.RuleKinds.{CallsNothing, IsFlatRule};
+ghost use Rattle.cyp_step.specs.RuleKinds.{IsFlatRule};
 ghost use Rattle.cyp_step.specs.Step.{all_normal, nodes_of, premises as the_premises, raws, renamed_premises};
 
+use crate::calling::call;
 use crate::closing::close;
 use crate::flat_rules::{Raws, allocate, emp, frame, free, inconsistent, pick, read, write};
 use crate::narrow::Narrow;
@@ -39,11 +40,10 @@ fn flat_raws(alloc: Global, node: &Node, rule: &Rule) -> Result<Raws, NoMemory>
 
 /// What the rule leaves to do.
 fn raws(alloc: Global, node: &Node, rule: &Rule) -> Result<Raws, NoMemory>
-    requires { CallsNothing rule.now }
     ensures { IfOk result (λ r. LeavesRaws node.now rule.now r) }
 {
     match rule {
-        Rule::ByCall(_) => unreachable!(),
+        Rule::ByCall(by) => call(alloc, node, by),
         Rule::ByOpen(place) => open(alloc, node, *place),
         Rule::ByClose(clause) => close(alloc, node, *clause),
         _ => flat_raws(alloc, node, rule),
@@ -80,13 +80,12 @@ fn normal_forms(alloc: Global, raws: List<Raw>) -> Result<Option<List<Renamed>>,
 }
 
 /// The premises of the rule at the node, with what their program variables were called before they
-/// were numbered anew. It is `None` where the rule isn't allowed. The rule calls nothing.
+/// were numbered anew. It is `None` where the rule isn't allowed.
 pub fn premises_of(
     alloc: Global,
     node: &Node,
     rule: &Rule,
 ) -> Result<Option<List<Renamed>>, NoMemory>
-    requires { CallsNothing rule.now }
     ensures { IfOk result (λ r. r ≡ renamed_premises node.now rule.now) }
 {
     let _links = node.links();
@@ -123,15 +122,13 @@ fn are_nodes_of(forms: &[Renamed], nodes: &[Shared<Node>]) -> bool
     true
 }
 
-/// Whether the rule is allowed at the node and leaves these premises. The rule calls
-/// nothing.
+/// Whether the rule is allowed at the node and leaves these premises.
 pub fn is_step(
     alloc: Global,
     node: &Node,
     rule: &Rule,
     premises: &[Shared<Node>],
 ) -> Result<bool, NoMemory>
-    requires { CallsNothing rule.now }
     ensures { IfOk result (λ b. IsTrue b ↔ (the_premises node.now rule.now ≡ Some premises.now)) }
 {
     match premises_of(alloc, node, rule)? {

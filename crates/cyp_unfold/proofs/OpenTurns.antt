@@ -1,13 +1,10 @@
 -- The rules that open, place by place.
 use Rattle.std.proofs.Common.{◌≡◌, ◌∙◌, ◌+◌, ◌++◌, ◌<◌, ◌≤◌, ◌∷◌, ℕ, [], Bool, List, add-one, ap, append-nil, append_assoc, cond, drop, false, get_or, length, map, nat_lt, refl, suc, sym, true}
-use Rattle.std.specs.List.{All, AllByRecursion}
 use Rattle.std.proofs.lemmas.List.{at_drop_all, at_drop_more}
-use Rattle.std.proofs.lemmas.List.Elements.{All-from_recursion}
 use Rattle.cyp_heap.specs.declared.chunk.Chunk.{Chunk}
 use Rattle.cyp_heap.specs.declared.chunk.Chunk.TheVariants.{Block, Cell, Inst}
-use Rattle.cyp_step.specs.RuleKinds.{CallsNothing}
 use Rattle.cyp_step.specs.declared.rule.Rule.{Rule}
-use Rattle.cyp_step.specs.declared.rule.Rule.TheVariants.{ByClose, ByOpen}
+use Rattle.cyp_step.specs.declared.rule.Rule.TheVariants.{ByOpen}
 use Rattle.cyp_unfold.specs.OpenPlaces.{is_openable, opening_at}
 use Rattle.cyp_unfold.specs.UnfoldRows.{openable}
 
@@ -46,15 +43,3 @@ module _ (limit : ℕ) where
 
   pub places_end : (chunks : List Chunk) (k : ℕ) (done all : List Rule) → length chunks ≤ k → done ++ openings_from k (drop k chunks) ≡ all → done ≡ all
   places_end chunks k done all le h = sym (append-nil done) ∙ sym (ap (λ rs. done ++ rs) (at_drop_all (openings_from k) chunks k le)) ∙ h
-
--- ---- rules that call nothing
-
-each_calls_nothing : (f : ℕ → Rule) → ((k : ℕ) → CallsNothing (f k)) → (ks : List ℕ) → AllByRecursion CallsNothing (map f ks)
-each_calls_nothing f h [] = tt
-each_calls_nothing f h (k ∷ ks) = (h k, each_calls_nothing f h ks)
-
-pub opens_call_nothing : (ks : List ℕ) → All CallsNothing (map ByOpen ks)
-opens_call_nothing ks = All-from_recursion CallsNothing (map ByOpen ks) (each_calls_nothing ByOpen (λ k. tt) ks)
-
-pub closes_call_nothing : (ks : List ℕ) → All CallsNothing (map ByClose ks)
-closes_call_nothing ks = All-from_recursion CallsNothing (map ByClose ks) (each_calls_nothing ByClose (λ k. tt) ks)

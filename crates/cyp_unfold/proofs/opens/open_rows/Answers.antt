@@ -1,22 +1,15 @@
 use Rattle.std.proofs.Common.{IfOk, List, ap, length, map, subst, sym, ◌∙◌, ◌≡◌, ◌≤◌}
-use Rattle.std.specs.List.{All}
 use Rattle.cyp_heap.specs.declared.chunk.Chunk.{Chunk}
 use Rattle.cyp_heap.specs.declared.goal.Goal.{Goal}
 use Rattle.cyp_step.proofs.FlatFits.{few_chunks}
-use Rattle.cyp_step.specs.RuleKinds.{CallsNothing}
 use Rattle.cyp_step.specs.Rows.{rows}
-use Rattle.cyp_step.specs.declared.rule.Rule.{Rule}
 use Rattle.cyp_step.specs.declared.rule.Rule.TheVariants.{ByOpen}
-use Rattle.cyp_unfold.proofs.OpenTurns.{opens_call_nothing}
 use Rattle.cyp_unfold.specs.UnfoldRows.{openable}
 use Rattle.cyp_unfold.proofs.opens.open_rows.Goals as goal
 
 pub openings-requires : goal.openings-requires
 openings-requires c =
     subst (λ (cs : List Chunk). length cs ≤ 16) (sym c.chunks.ensures.chunks) (few_chunks c.args.node.now c.goal.result.now c.goal.ensures.keeps c.goal.ensures.goal)
-
-pub rows_of-requires : goal.rows_of-requires
-rows_of-requires c = subst (λ (rs : List Rule). All CallsNothing rs) (sym c.in_ok-rules.ensures) (opens_call_nothing _)
 
 pub returns : goal.returns
 returns c =
