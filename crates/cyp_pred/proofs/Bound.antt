@@ -1,6 +1,5 @@
 -- Variables bound one by one: what a turn adds, and what is left.
 use Rattle.std.proofs.Common.{◌≡◌, ◌∙◌, refl, ap, sym, arith, append_assoc, ℕ, suc, ◌+◌, ◌-◌, ◌<◌, List, [], ◌∷◌, ◌++◌, drop, get_or, length, map}
-use Rattle.std.proofs.lemmas.List.{append-nil}
 use Rattle.cyp_heap.specs.declared.chunk.Arg.{Arg}
 use Rattle.cyp_heap.specs.declared.chunk.Arg.TheVariants.{Int as IntArg, Set as SetArg}
 use Rattle.cyp_pred.specs.Unfold.{bind_ints, bind_sets, int_args, new_ints, new_sets, set_args}

@@ -1,6 +1,6 @@
 -- Entries of clauses: when they are wide, and the one at a place.
-use Rattle.std.proofs.Common.{◌≡◌, ◌∙◌, refl, ap, sym, arith, ℕ, suc, ◌+◌, ◌<◌, ◌≤◌, Bool, true, false, ◌||◌, List, [], ◌∷◌, ◌++◌, None, Option, Some, Ok, Err, Result, get_or, length, map, option_map, take}
-use Rattle.std.proofs.lemmas.List.{length-map, map-append, take_more}
+use Rattle.std.proofs.Common.{◌≡◌, ◌∙◌, refl, ap, sym, ℕ, suc, ◌+◌, ◌<◌, Bool, true, false, ◌||◌, List, [], ◌∷◌, ◌++◌, Some, Err, get_or, length, map, option_map, take}
+use Rattle.std.proofs.lemmas.List.{map-append, take_more}
 use Rattle.std.proofs.lemmas.List.Folds.{list_any-append}
 use Rattle.std.proofs.lemmas.Option.{slice_get-map, slice_get_read}
 use Rattle.std.specs.List.{list_any, slice_get}
@@ -28,8 +28,7 @@ pub one_more : {X Y : Type 0} (f : X → Y) (test : Y → Bool) (xs : List X) (k
     → (test (f x) ≡ false) × (y ≡ f x) → new ≡ made ++ y ∷ [] → made ≡ map f (take k xs) → list_any test (map f (take k xs)) ≡ false
     → (new ≡ map f (take (k + 1) xs)) × (list_any test (map f (take (k + 1) xs)) ≡ false)
 one_more f test xs k x y made new lt is one push before narrow =
-    let grown : map f (take (k + 1) xs) ≡ map f (take k xs) ++ f x ∷ [] = ap (map f) (take_more xs k x lt ∙ ap (λ z. take k xs ++ z ∷ []) (sym is)) ∙ map-append f (take k xs) (x ∷ []) in
-    (
+    let grown : map f (take (k + 1) xs) ≡ map f (take k xs) ++ f x ∷ [] = ap (map f) (take_more xs k x lt ∙ ap (λ z. take k xs ++ z ∷ []) (sym is)) ∙ map-append f (take k xs) (x ∷ []) in (
       push ∙ ap (λ ys. ys ++ y ∷ []) before ∙ ap (λ z. map f (take k xs) ++ z ∷ []) one.1 ∙ sym grown,
       ap (list_any test) grown ∙ list_any-append test (map f (take k xs)) (f x ∷ []) ∙ ap (λ b. b || (test (f x) || false)) narrow ∙ or_none (test (f x)) ∙ one.0,
     )

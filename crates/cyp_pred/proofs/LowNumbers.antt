@@ -5,27 +5,24 @@ use Rattle.std.proofs.lemmas.List.{length-map}
 use Rattle.std.specs.List.{list_all, slice_get}
 use Rattle.std.specs.Prelude.{IsTrue, nat_le, nat_lt}
 use Rattle.cyp_heap.specs.Chunks.{apply_chunk, insts}
-use Rattle.cyp_heap.specs.PredsFormed.{IsFormedPreds, is_clause_within}
+use Rattle.cyp_heap.specs.PredsFormed.{IsFormedPreds, clause_elements, is_clause_within}
 use Rattle.cyp_heap.specs.declared.chunk.Chunk.{Chunk}
 use Rattle.cyp_heap.specs.declared.chunk.InstOf.{InstOf}
 use Rattle.cyp_heap.specs.declared.pred.Clause.{Clause}
 use Rattle.cyp_heap.specs.declared.pred.Preds.{Preds}
-use Rattle.cyp_pred.proofs.Ready.{clauses_pass}
+use Rattle.cyp_pred.proofs.Ready.{clauses_pass, first_part}
 use Rattle.cyp_pred.proofs.Tagged.{few_insts}
-use Rattle.cyp_pred.specs.Unfold.{cards_used, clause_subst, clauses_of, int_args, own_ints, own_sets, set_args, unfold_clause, unfold_inst}
+use Rattle.cyp_pred.specs.Unfold.{cards_used, clause_subst, clauses_of, int_args, set_args, unfold_clause, unfold_inst}
 use Rattle.cyp_pred.specs.Unfoldable.{is_numbered}
 use Rattle.cyp_pred.specs.declared.unfolded.Next.{Next}
 use Rattle.cyp_pred.specs.declared.unfolded.Unfolded.{Unfolded}
+use Rattle.cyp_term.specs.Terms.{term_eq, without_repeats}
 use Rattle.cyp_term.specs.declared.subst.Subst.{Subst}
 use Rattle.cyp_term.specs.declared.term.Var.{Var}
 
 used_most : (card : Option Var) (n : ℕ) → cards_used card n ≤ n
 used_most None n = omega arith
 used_most (Some v) n = omega arith
-
-part_1 : (a b c d e : Bool) → IsTrue (a && b && c && d && e) → IsTrue a
-part_1 true b c d e h = refl
-part_1 false b c d e h = h
 
 part_3 : (a b c d e : Bool) → IsTrue (a && b && c && d && e) → IsTrue c
 part_3 a b true d e h = refl
@@ -48,9 +45,14 @@ module _ (i : InstOf) (next : Next) (ints : next.ints ≤ 32) (cards : next.card
   low_clause c h =
       let by : Subst = clause_subst i.args c next in
       let cs : List Chunk = map (apply_chunk by) c.heap.chunks in
-      let chunks : length c.heap.chunks ≤ 8 = leb-true (length c.heap.chunks) 8 (part_1 _ _ _ _ _ h) in
-      let most_ints : c.ints ≤ 64 = leb-true c.ints 64 (part_3 _ _ _ _ _ h) in
-      let most_sets : c.sets ≤ 32 = leb-true c.sets 32 (part_4 _ _ _ _ _ h) in
+      let few_chunks : Bool = nat_le (length c.heap.chunks) 8 in
+      let few_lits : Bool = nat_le (length c.lits) 8 in
+      let few_ints : Bool = nat_le c.ints 64 in
+      let few_sets : Bool = nat_le c.sets 32 in
+      let few_elements : Bool = nat_le (length (without_repeats term_eq (clause_elements c))) 32 in
+      let chunks : length c.heap.chunks ≤ 8 = leb-true (length c.heap.chunks) 8 (first_part few_chunks few_lits few_ints few_sets few_elements h) in
+      let most_ints : c.ints ≤ 64 = leb-true c.ints 64 (part_3 few_chunks few_lits few_ints few_sets few_elements h) in
+      let most_sets : c.sets ≤ 32 = leb-true c.sets 32 (part_4 few_chunks few_lits few_ints few_sets few_elements h) in
       let as_many : length cs ≡ length c.heap.chunks = length-map c.heap.chunks (apply_chunk by) in
       let few : length (insts cs) ≤ length cs = few_insts cs in
       let used : cards_used i.card (length (insts cs)) ≤ length (insts cs) = used_most i.card (length (insts cs)) in

@@ -1,5 +1,5 @@
 -- What the conditions say of one predicate and of one clause.
-use Rattle.std.proofs.Common.{◌≡◌, ◌∙◌, refl, ap, sym, arith, ℕ, zero, suc, ◌+◌, ◌<◌, ◌≤◌, Bool, true, false, ◌&&◌, List, [], ◌∷◌, None, Option, Some, get_or, length, map}
+use Rattle.std.proofs.Common.{◌≡◌, ◌∙◌, refl, ap, sym, arith, ℕ, zero, suc, ◌+◌, ◌<◌, ◌≤◌, Bool, true, false, ◌&&◌, List, [], ◌∷◌, Some, get_or, length, map}
 use Rattle.std.proofs.lemmas.Bool.{and_from, and_parts, leb-true, ltb-true}
 use Rattle.std.proofs.lemmas.List.{length-map}
 use Rattle.std.proofs.lemmas.Option.{slice_get_read}
@@ -47,7 +47,8 @@ clauses_pass test [] k h = refl
 clauses_pass test (q ∷ qs) zero h = (and_parts (list_all test q.clauses) (list_all (λ (p : Pred). list_all test p.clauses) qs) h).0
 clauses_pass test (q ∷ qs) (suc k) h = clauses_pass test qs k (and_parts (list_all test q.clauses) (list_all (λ (p : Pred). list_all test p.clauses) qs) h).1
 
-first_part : (a b c d e : Bool) → IsTrue (a && b && c && d && e) → IsTrue a
+-- the first of five tests
+pub first_part : (a b c d e : Bool) → IsTrue (a && b && c && d && e) → IsTrue a
 first_part true b c d e h = refl
 first_part false b c d e h = h
 

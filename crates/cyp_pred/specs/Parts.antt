@@ -1,5 +1,5 @@
 -- The parts of an unfolded clause, in the steps in which they are made.
-use Rattle.std.specs.Prelude.{Bool, IsTrue, List, None, Option, Some, length, map, nat_le, suc, ℕ, ◌&&◌, ◌+◌, ◌++◌, ◌||◌}
+use Rattle.std.specs.Prelude.{Bool, None, Option, Some, length, map, nat_le, suc, ℕ, ◌&&◌, ◌+◌, ◌++◌, ◌||◌}
 use Rattle.std.specs.List.{list_any}
 use Rattle.cyp_heap.specs.Chunks.{apply_heap, insts, wide_chunk}
 use Rattle.cyp_heap.specs.declared.chunk.Chunk.{Chunk}

@@ -1,4 +1,4 @@
-use Rattle.std.proofs.Common.{arith, length, ◌<◌}
+use Rattle.std.proofs.Common.{arith}
 use Rattle.std.proofs.lemmas.Result.{err_from_is_err_and}
 use Rattle.cyp_pred.proofs.Entries.{one_made, one_refused}
 use Rattle.cyp_pred.specs.Unfold.{clauses_of}
