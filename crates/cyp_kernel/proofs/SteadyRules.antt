@@ -1,22 +1,17 @@
 -- What each rule leaves is as the rules ask, and so are the premises and the root.
-use Rattle.std.proofs.Common.{◌≡◌, ◌∷◌, ◌&&◌, ◌==◌, refl, sym, true, List, [], IfSome, Option, Some, is_none, length, map, slice_get, subst}
-use Rattle.std.specs.List.{AllByRecursion, list_all}
-use Rattle.std.proofs.lemmas.Bool.{and_parts}
+use Rattle.std.proofs.Common.{◌≡◌, ◌∷◌, ◌&&◌, ◌==◌, refl, sym, List, [], IfSome, Option, Some, length, map, slice_get, subst}
+use Rattle.std.specs.List.{AllByRecursion}
 use Rattle.std.proofs.lemmas.List.Elements.{All-from_recursion, recursion_from_All}
 use Rattle.std.proofs.lemmas.Option.{option_and_then_some, same_Some}
 use Rattle.cyp_goal.proofs.LinksNormal.{IsKept, IsKeptWithin, normal_kept}
 use Rattle.cyp_goal.specs.Facts.{facts}
 use Rattle.cyp_goal.specs.Normal.{Renaming, normal}
 use Rattle.cyp_goal.specs.Pruning.{only_vars}
-use Rattle.cyp_heap.specs.Chunks.{insts}
-use Rattle.cyp_heap.specs.Formed.{inst_fits}
 use Rattle.cyp_heap.specs.Goals.{apply_link}
-use Rattle.cyp_heap.specs.PredsFormed.{IsFormedPreds, insts_plain}
-use Rattle.cyp_heap.specs.declared.chunk.InstOf.{InstOf}
+use Rattle.cyp_heap.specs.PredsFormed.{IsFormedPreds}
 use Rattle.cyp_heap.specs.declared.goal.Goal.{Goal}
 use Rattle.cyp_heap.specs.declared.goal.Link.{Link}
 use Rattle.cyp_heap.specs.declared.goal.Node.{Node}
-use Rattle.cyp_heap.specs.declared.pred.Clause.{Clause}
 use Rattle.cyp_heap.specs.declared.pred.Pred.{Pred}
 use Rattle.cyp_heap.specs.declared.pred.Preds.{Preds}
 use Rattle.cyp_kernel.proofs.Allowed.{mapped_some}
@@ -32,32 +27,21 @@ use Rattle.cyp_kernel.proofs.SteadyUnfold.{close_steady, open_steady}
 use Rattle.cyp_kernel.specs.Correct.{unlinked}
 use Rattle.cyp_kernel.specs.Steady.{IsSteady}
 use Rattle.cyp_kernel.specs.SteadyLaws.{CompanionsFree, CompanionsSteady, IsSteadyNode, IsSteadyRaw, LeavesSteady, PremisesSteady, RootIsSteady}
+use Rattle.cyp_step.proofs.FormedClauses.{formed_clauses_fit}
 use Rattle.cyp_step.proofs.ChunkLists.{Every-slice_get}
 use Rattle.cyp_step.proofs.EachRule.{raws_left}
 use Rattle.cyp_step.proofs.Premises.{premises_are_nodes}
 use Rattle.cyp_step.proofs.RawNodes.{AreLeft, IsLeft, by_test}
 use Rattle.cyp_step.proofs.Root.{fits_over, root_is_node}
 use Rattle.cyp_step.specs.Changes.{post_of, pre_of}
-use Rattle.cyp_step.specs.Nodes.{IsNode, IsOver, clause_fits, clauses_fit, pred_fits}
+use Rattle.cyp_step.specs.Nodes.{IsNode, IsOver, clauses_fit}
 use Rattle.cyp_step.specs.Shown.{shown}
 use Rattle.cyp_step.specs.Step.{all_normal, nodes_of, raws, renamed_premises}
 use Rattle.cyp_step.specs.declared.rule.Rule.{Rule}
 use Rattle.cyp_step.specs.declared.rule.Rule.TheVariants.{ByAlloc, ByCall, ByClose, ByEmp, ByFrame, ByFree, ByInconsistent, ByOpen, ByPick, ByRead, ByWrite}
-use Rattle.cyp_term.proofs.Lists.{Every-among, Every-from_among, each_at, each_from}
+use Rattle.cyp_term.proofs.Lists.{Every-among, Every-from_among}
 use Rattle.cyp_term.specs.Entailment.{satisfiable}
 use Rattle.cyp_unify.specs.Frames.{focus}
-
--- the instances in the clauses of formed predicates fit
-pub formed_clauses_fit : (preds : Preds) → IsFormedPreds preds → clauses_fit preds ≡ true
-formed_clauses_fit preds f =
-    each_from (pred_fits preds) preds.list (λ q k.
-    let plain = each_at (λ (q : Pred). list_all (λ (c : Clause). insts_plain preds c) q.clauses) q preds.list f.instances_plain k in
-    each_from (clause_fits preds) q.clauses (λ c l.
-    let plain_insts = each_at (λ (c : Clause). insts_plain preds c) c q.clauses plain l in
-    each_from (inst_fits preds) (insts c.heap.chunks) (λ i m.
-    (and_parts (inst_fits preds i) (is_none i.card)
-    (and_parts (inst_fits preds i && is_none i.card) (i.tag == 0)
-    (each_at (λ (i : InstOf). inst_fits preds i && is_none i.card && (i.tag == 0)) i (insts c.heap.chunks) plain_insts m)).0).0)))
 
 -- ---- before the normal form
 
