@@ -17,7 +17,8 @@ fn last_tuple(alloc: Global, links: &[Link]) -> Result<List<Term>, NoMemory>
     if links.len() == 0 {
         return Ok(List::from_vec(Vec::new(alloc)));
     }
-    links[links.len() - 1].tuple.copy(alloc)
+    let tuple = links[links.len() - 1].tuple.copy(alloc)?;
+    Ok(tuple)
 }
 
 /// Adds the cardinality, where there is one.

@@ -1,6 +1,6 @@
 use Rattle.std.proofs.Common.{ap, ◌∙◌}
 use Rattle.cyp_heap.specs.declared.goal.Goal.{Goal}
-use Rattle.cyp_step.proofs.OuterVars.{outer_start, outer_turn}
+use Rattle.cyp_step.proofs.OuterVars.{outer_start, outer_at}
 use Rattle.cyp_step.proofs.identity.outer_vars.Goals as goal
 
 pub loop-place-init : goal.loop-place-init
@@ -10,5 +10,5 @@ loop-place-init c =
 
 pub loop-place-preserved : goal.loop-place-preserved
 loop-place-preserved c =
-    outer_turn c.as_slice-exist.result.now c.loop-place.vars.items c.add_outer.new.vars.items c.as_slice-all.result.now _ c.loop-place.place c.index-all-place.result
-    c.loop-place.invariant c.loop-place-test.true c.index-all-place.is c.in_ok-add_outer.ensures
+    outer_at c.as_slice-exist.result.now c.loop-place.vars.items c.add_outer.new.vars.items c.as_slice-all.result.now _ c.loop-place.place _
+    c.loop-place.invariant c.loop-place-test.true c.in_ok-add_outer.ensures
