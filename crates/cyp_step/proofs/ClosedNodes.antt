@@ -1,6 +1,6 @@
 -- What Close leaves to do at a node, test by test.
-use Rattle.std.proofs.Common.{◌≡◌, ◌∙◌, ◌∷◌, ℕ, [], Bool, IfSome, IsTrue, List, None, Option, Some, ap, false, is_none, nat_lt, option_map, refl, slice_get, subst, sym, true}
-use Rattle.std.specs.List.{All, list_any}
+use Rattle.std.proofs.Common.{◌≡◌, ◌∙◌, ◌∷◌, ℕ, [], Bool, IfSome, IsTrue, None, Option, Some, ap, false, is_none, nat_lt, option_map, refl, slice_get, subst, sym, true}
+use Rattle.std.specs.List.{list_any}
 use Rattle.std.proofs.lemmas.Bool.{or_left}
 use Rattle.std.proofs.lemmas.Option.{none-some}
 use Rattle.std.proofs.lemmas.List.Elements.{recursion_from_All}

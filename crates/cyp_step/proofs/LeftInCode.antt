@@ -1,5 +1,5 @@
 -- What a rule leaves to do in code, against the premises of the rule.
-use Rattle.std.proofs.Common.{◌≡◌, ◌∙◌, ◌∷◌, ℕ, [], Err, IfOk, List, None, Ok, Option, Result, Some, ap, refl, subst, sym, true}
+use Rattle.std.proofs.Common.{◌≡◌, ◌∙◌, ◌∷◌, ℕ, [], Err, IfOk, List, None, Ok, Result, Some, ap, refl, subst, sym, true}
 use Rattle.std.specs.List.{list_any}
 use Rattle.std.specs.Option.{option_and_then}
 use Rattle.std.proofs.lemmas.Bool.{false≢true}

@@ -1,5 +1,5 @@
 -- The steps of Open in code: what the tests and calls say of the node.
-use Rattle.std.proofs.Common.{◌≡◌, ◌∙◌, ◌<◌, ◌∷◌, ℕ, zero, suc, [], Bool, IsTrue, List, None, Option, Some, ap, arith, length, map, nat_lt, refl, slice_get, subst, sym, true}
+use Rattle.std.proofs.Common.{◌≡◌, ◌∙◌, ◌<◌, ◌∷◌, ℕ, zero, suc, [], Bool, List, None, Option, Some, ap, arith, length, map, nat_lt, refl, slice_get, subst, sym, true}
 use Rattle.std.specs.List.{All, list_all, list_any}
 use Rattle.std.proofs.lemmas.Bool.{and_parts, ltb-true}
 use Rattle.std.proofs.lemmas.Option.{none-some}

@@ -1,6 +1,6 @@
 -- What Open leaves to do at a node, test by test.
-use Rattle.std.proofs.Common.{◌≡◌, ◌∙◌, ◌&&◌, ◌∷◌, ℕ, Bool, IfSome, IsTrue, List, None, Option, Some, ap, false, length, map, nat_lt, option_map, refl, slice_get, subst, sym, true}
-use Rattle.std.specs.List.{All, AllByRecursion, list_all, list_any}
+use Rattle.std.proofs.Common.{◌≡◌, ◌∙◌, ◌&&◌, ℕ, Bool, IfSome, IsTrue, List, None, Option, Some, ap, false, map, option_map, refl, slice_get, subst, sym, true}
+use Rattle.std.specs.List.{All, list_all, list_any}
 use Rattle.std.proofs.lemmas.List.Elements.{All-from_recursion, All-weaker}
 use Rattle.std.proofs.lemmas.Option.{none-some}
 use Rattle.cyp_goal.proofs.LinksFit.{FitsPre}
@@ -20,7 +20,7 @@ use Rattle.cyp_step.proofs.LeftInCode.{nothing_left, wide_left}
 use Rattle.cyp_step.proofs.Premises.{left_nodes_are_raw}
 use Rattle.cyp_step.proofs.RawNodes.{by_test, its_sides}
 use Rattle.cyp_step.proofs.WideEntries.{wide_premises}
-use Rattle.cyp_step.specs.Changes.{Raws, next_of, pre_of, where_true}
+use Rattle.cyp_step.specs.Changes.{next_of, pre_of, where_true}
 use Rattle.cyp_step.specs.Nodes.{IsNode, IsOver, IsRaw}
 use Rattle.cyp_step.specs.Step.{raws, renamed_premises}
 use Rattle.cyp_step.specs.UnfoldParts.{HasCard, HasFits, has_room, inst_in}

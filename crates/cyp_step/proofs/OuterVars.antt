@@ -1,6 +1,6 @@
 -- The variables of a node outside the existentials, variable by variable.
 use Rattle.std.proofs.Common.{◌≡◌, ◌∙◌, ◌+◌, ◌<◌, ◌∷◌, ℕ, zero, suc, [], Bool, List, cond, drop, false, filter, get_or, length, not, refl, sym, true, ap, arith}
-use Rattle.cyp_goal.proofs.Loops.{rest_end, rest_step}
+use Rattle.cyp_goal.proofs.Loops.{rest_step}
 use Rattle.cyp_heap.specs.Goals.{node_vars}
 use Rattle.cyp_heap.specs.declared.goal.Node.{Node}
 use Rattle.cyp_step.proofs.Fewer.{filter_all_new}

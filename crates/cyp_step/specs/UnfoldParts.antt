@@ -1,5 +1,5 @@
 -- The parts of Open and Close, as the rules make them one by one.
-use Rattle.std.specs.Prelude.{[], ◌&&◌, ◌++◌, ◌-◌, Bool, IfSome, IsTrue, List, None, Option, Some, length, map, nat_lt, true, ℕ, ◌∷◌, ◌≡◌}
+use Rattle.std.specs.Prelude.{[], ◌&&◌, ◌++◌, ◌-◌, Bool, IfSome, IsTrue, List, None, Option, Some, length, nat_lt, true, ℕ, ◌∷◌, ◌≡◌}
 use Rattle.std.specs.List.{list_any}
 use Rattle.cyp_heap.specs.Chunks.{put_all, without}
 use Rattle.cyp_heap.specs.Formed.{insts_fit, is_card_var}

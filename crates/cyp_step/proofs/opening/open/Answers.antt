@@ -1,5 +1,4 @@
-use Rattle.std.proofs.Common.{◌≡◌, ◌∙◌, Bor, Some, ap, option_map, slice_get, sym}
-use Rattle.cyp_heap.specs.declared.chunk.Chunk.TheVariants.{Inst}
+use Rattle.std.proofs.Common.{◌∙◌, Bor, ap, option_map, sym}
 use Rattle.cyp_heap.specs.declared.chunk.InstOf.{InstOf}
 use Rattle.cyp_heap.specs.declared.goal.Goal.{Goal}
 use Rattle.cyp_step.proofs.OpenSteps.{entries_are, entries_wide, fit_each, inst_missing, inst_there, none_from, opened_as, room_tag, tested_as, within_from}
