@@ -1,9 +1,0 @@
-use Rattle.cyp_tests.proofs.PrintedProofs.{with_part}
-use Rattle.cyp_step.specs.declared.rule.Rule.TheVariants.{ByFrame}
-use Rattle.cyp_tests.specs.PrintedExamples.{end_proof, stored}
-use Rattle.cyp_tests.proofs.print.framed.Goals as goal
-
-pub returns : goal.returns
-returns c =
-    with_part c.in_ok-found.found c.in_ok-last.last c.in_ok-stored.field-0 stored (ByFrame 0) c.in_ok-parts.parts end_proof
-    c.in_ok-found.ensures c.in_ok-stored.ensures c.in_ok-parts.ensures c.in_ok-last.ensures

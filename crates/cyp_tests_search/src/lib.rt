@@ -1,0 +1,15 @@
+//! Tests of trees, queues, memos, search and the cancel words, one file a crate.
+#![tactic(auto)]
+
+#[cfg(test)]
+mod cancel;
+#[cfg(test)]
+mod machine;
+#[cfg(test)]
+mod memo;
+#[cfg(test)]
+mod queue;
+#[cfg(test)]
+mod search;
+#[cfg(test)]
+mod tree;
