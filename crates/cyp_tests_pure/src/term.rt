@@ -334,6 +334,6 @@ fn pushes_at_the_end_and_takes_out(rt: HostRuntime) -> Result<(), Fail> {
     numbers.push(alloc, 7)?;
     assert_eq!(rt; numbers.remove(1), 5);
     let list = numbers.into_list();
-    assert!(rt; list.as_slice() == [3, 7]);
+    assert!(rt; list.as_slice() == [3, 7].as_slice());
     Ok(())
 }
