@@ -4,8 +4,6 @@
 #[cfg(test)]
 mod cancel;
 #[cfg(test)]
-mod machine;
-#[cfg(test)]
 mod memo;
 #[cfg(test)]
 mod queue;

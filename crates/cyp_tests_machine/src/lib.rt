@@ -1,0 +1,5 @@
+//! Tests of the machine of programs.
+#![tactic(auto)]
+
+#[cfg(test)]
+mod machine;
