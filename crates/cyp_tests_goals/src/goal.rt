@@ -314,7 +314,7 @@ fn keeps_what_a_measure_speaks_of(rt: HostRuntime) -> Result<(), Fail> {
     Ok(())
 }
 
-// ---- what the papers leave open of the normal form
+// ---- what is settled of the normal form beside its rules
 
 fn is_too_large(alloc: Global, lits: List<Lit>) -> bool {
     matches!(of_lits(alloc, lits), Err(Refused::Named(TooLarge)))

@@ -1,4 +1,4 @@
-//! Tests of heaps, goals, normal forms and matches, one file a crate.
+//! Tests of heaps, goals, normal forms and matches.
 #![tactic(auto)]
 
 #[cfg(test)]

@@ -1,4 +1,4 @@
-//! Tests of the text of a program, one file a crate.
+//! Tests of the text of a program.
 #![tactic(auto)]
 
 #[cfg(test)]

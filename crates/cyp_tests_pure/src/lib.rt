@@ -1,6 +1,8 @@
-//! Tests of terms, their constraints and sets, and the reading and writing of whole texts, one file a crate.
+//! Tests of terms, their constraints and sets, and the reading and writing of whole texts.
 #![tactic(auto)]
 
+#[cfg(test)]
+mod bounds;
 #[cfg(test)]
 mod diff;
 #[cfg(test)]
@@ -9,6 +11,8 @@ mod io;
 mod lanes;
 #[cfg(test)]
 mod pure;
+#[cfg(test)]
+mod room;
 #[cfg(test)]
 mod sets;
 #[cfg(test)]

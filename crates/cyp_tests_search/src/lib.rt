@@ -1,4 +1,4 @@
-//! Tests of trees, queues, memos, search and the cancel words, one file a crate.
+//! Tests of trees, queues, memos, search and the cancel words.
 #![tactic(auto)]
 
 #[cfg(test)]

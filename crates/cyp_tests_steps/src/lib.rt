@@ -1,4 +1,4 @@
-//! Tests of steps, rows and moves, one file a crate.
+//! Tests of steps, rows and moves.
 #![tactic(auto)]
 
 #[cfg(test)]

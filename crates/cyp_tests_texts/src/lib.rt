@@ -1,4 +1,4 @@
-//! Tests of the reading of texts and specifications, one file a crate.
+//! Tests of the reading of texts and specifications.
 #![tactic(auto)]
 
 #[cfg(test)]

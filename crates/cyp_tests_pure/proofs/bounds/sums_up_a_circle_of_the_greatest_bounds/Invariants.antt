@@ -1,5 +1,5 @@
 use Rattle.std.proofs.Common.{◌≡◌, length}
-use Rattle.cyp_tests_pure.proofs.diff.sums_up_a_circle_of_the_greatest_bounds.Given as goal
+use Rattle.cyp_tests_pure.proofs.bounds.sums_up_a_circle_of_the_greatest_bounds.Given as goal
 
 abbrev pub invariant-loop-i : goal.invariant-loop-i
 invariant-loop-i g l = length l.bounds ≡ 33

@@ -1,5 +1,5 @@
 use Rattle.std.proofs.Common.{◌≡◌, length}
-use Rattle.cyp_tests_pure.proofs.diff.bounds_the_longest_chain.Given as goal
+use Rattle.cyp_tests_pure.proofs.bounds.bounds_the_longest_chain.Given as goal
 
 abbrev pub invariant-loop-i : goal.invariant-loop-i
 invariant-loop-i g l = length l.bounds ≡ 33
