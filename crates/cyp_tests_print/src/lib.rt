@@ -1,4 +1,4 @@
-//! Tests of the text of a program.
+//! Tests of the text of a program, one file a crate.
 #![tactic(auto)]
 
 #[cfg(test)]

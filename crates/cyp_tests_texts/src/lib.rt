@@ -1,4 +1,4 @@
-//! Tests of the reading of texts and specifications.
+//! Tests of the reading of texts and specifications, one file a crate.
 #![tactic(auto)]
 
 #[cfg(test)]
