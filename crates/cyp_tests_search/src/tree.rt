@@ -91,6 +91,7 @@ fn leaves_die_with_their_ways(rt: HostRuntime) -> Result<(), Failed> {
     // 4 grows to three: 5 6 7
     let grafted = graft(alloc, &mut tree, 4, &moves(alloc, 3, 1)?)?;
     assert_eq!(rt; grafted.killed.len(), 0);
+    assert_eq!(rt; tree.count(), 8);
     assert_eq!(rt; tree.cost(7), 5);
     assert_eq!(rt; tree.depth(), 2);
     // 6 is solved: 5 and 7 die, 4 is solved
