@@ -1,5 +1,0 @@
-//! Tests of the machine of programs.
-#![tactic(auto)]
-
-#[cfg(test)]
-mod machine;
