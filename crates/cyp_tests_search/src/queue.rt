@@ -14,6 +14,11 @@ fn tree(alloc: Global, grown: bool) -> Result<Tree<u8, Spot>, NoMemory> {
     Ok(tree)
 }
 
+/// What is answered where there is an entry.
+fn entry(priority: u32, leaf: u32) -> Option<Entry> {
+    Some(Entry { priority, leaf })
+}
+
 #[test]
 fn entries_come_by_priority_and_leaf(rt: HostRuntime) -> Result<(), Failed> {
     let alloc = rt.alloc();
@@ -25,10 +30,10 @@ fn entries_come_by_priority_and_leaf(rt: HostRuntime) -> Result<(), Failed> {
     queue.push(3, 0)?;
     let root = tree(alloc, false)?;
     let grown = tree(alloc, true)?;
-    assert_eq!(rt; queue.peek(), Some(Entry { priority: 3, leaf: 0 }));
-    assert_eq!(rt; queue.pop_alive(&root), Some(Entry { priority: 3, leaf: 0 }));
-    assert_eq!(rt; queue.pop_alive(&grown), Some(Entry { priority: 3, leaf: 2 }));
-    assert_eq!(rt; queue.pop_alive(&grown), Some(Entry { priority: 5, leaf: 1 }));
+    assert_eq!(rt; queue.peek(), entry(3, 0));
+    assert_eq!(rt; queue.pop_alive(&root), entry(3, 0));
+    assert_eq!(rt; queue.pop_alive(&grown), entry(3, 2));
+    assert_eq!(rt; queue.pop_alive(&grown), entry(5, 1));
     assert!(rt; queue.pop_alive(&grown).is_none());
     Ok(())
 }
@@ -44,10 +49,10 @@ fn entries_of_dead_leaves_are_dropped(rt: HostRuntime) -> Result<(), Failed> {
     queue.push(4, 9)?;
     let grown = tree(alloc, true)?;
     // 0 is grown, and no node has number 7: both are dropped
-    assert_eq!(rt; queue.pop_alive(&grown), Some(Entry { priority: 3, leaf: 1 }));
-    assert_eq!(rt; queue.peek(), Some(Entry { priority: 3, leaf: 2 }));
-    assert_eq!(rt; queue.pop_alive(&grown), Some(Entry { priority: 3, leaf: 2 }));
-    assert_eq!(rt; queue.peek(), Some(Entry { priority: 4, leaf: 9 }));
+    assert_eq!(rt; queue.pop_alive(&grown), entry(3, 1));
+    assert_eq!(rt; queue.peek(), entry(3, 2));
+    assert_eq!(rt; queue.pop_alive(&grown), entry(3, 2));
+    assert_eq!(rt; queue.peek(), entry(4, 9));
     assert!(rt; queue.pop_alive(&grown).is_none());
     assert!(rt; queue.peek().is_none());
     Ok(())

@@ -11,7 +11,8 @@ pub graft-requires-clause-few : goal.graft-requires-clause-few
 graft-requires-clause-few c =
     let live : IsLive c.args.tree.now c.args.leaf = c.alive.ensures.0 c.if-alive.true in
     omega (
-    arith,
-    grown_size c.args.tree.now c.args.leaf c.args.moves.now c.count-count.ensures.numbered live,
-    c.count-count.ensures.value,
-    c.count_of_premises-more.ensures.value ∙ ap premises_in c.alts.ensures.value)
+      arith,
+      grown_size c.args.tree.now c.args.leaf c.args.moves.now c.count-count.ensures.numbered live,
+      c.count-count.ensures.value,
+      c.count_of_premises-more.ensures.value ∙ ap premises_in c.alts.ensures.value,
+    )
