@@ -6,4 +6,6 @@ mod goal;
 #[cfg(test)]
 mod heap;
 #[cfg(test)]
+mod matching;
+#[cfg(test)]
 mod unify;

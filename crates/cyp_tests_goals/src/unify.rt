@@ -3,18 +3,14 @@ ghost use Rattle.cyp_heap.specs.Chunks.{in_order};
 ghost use Rattle.cyp_term.specs.TermValue.{IsTerm};
 ghost use Rattle.cyp_term.specs.Terms.{var_term};
 ghost use Rattle.cyp_term.specs.declared.term.Sort.TheVariants.{Int};
-ghost use Rattle.cyp_tests_goals.specs.LinkedCell.{cell_goal, kept_vars, linked_cell};
 
-use cyp_goal::{TooLarge, normal};
-use cyp_heap::{Arg, BlockAt, CellAt, Chunk, Goal, Heap, InstOf, Link, Node, Preds, Raw};
-use cyp_term::{
-    Fail as Refused, IntBind, List, Lit, NoMemory, SetTerm, Shared, Sort, Subst, Term, Var,
-};
-use cyp_unify::{Match, Pair, frame_pairs, match_at};
+use cyp_heap::{Arg, BlockAt, CellAt, Chunk, Goal, Heap, InstOf};
+use cyp_term::{List, Lit, NoMemory, SetTerm, Sort, Term, Var};
+use cyp_unify::{Pair, frame_pairs};
 use std::alloc::Global;
 use std::test::Fail;
 
-fn int(number: u8) -> Var
+pub fn int(number: u8) -> Var
     ensures { result ≡ record { sort = Int; number = number } }
 {
     Var {
@@ -23,7 +19,7 @@ fn int(number: u8) -> Var
     }
 }
 
-fn bare(number: u8) -> Term
+pub fn bare(number: u8) -> Term
     ensures { result ≡ var_term (record { sort = Int; number = number }) }
 {
     Term::new(Some(int(number)), 0)
@@ -35,13 +31,13 @@ fn plain(value: i64) -> Term
     Term::new(None, value)
 }
 
-fn none<T>(alloc: Global) -> List<T>
+pub fn none<T>(alloc: Global) -> List<T>
     ensures { result ≡ [] }
 {
     List::from_vec(Vec::new(alloc))
 }
 
-fn one<T: Drop>(alloc: Global, item: T) -> Result<List<T>, NoMemory>
+pub fn one<T: Drop>(alloc: Global, item: T) -> Result<List<T>, NoMemory>
     ensures { IfOk result (λ xs. xs ≡ item ∷ []) }
 {
     let mut items = none(alloc);
@@ -49,7 +45,7 @@ fn one<T: Drop>(alloc: Global, item: T) -> Result<List<T>, NoMemory>
     Ok(items)
 }
 
-fn two<T: Drop>(alloc: Global, first: T, second: T) -> Result<List<T>, NoMemory>
+pub fn two<T: Drop>(alloc: Global, first: T, second: T) -> Result<List<T>, NoMemory>
     ensures { IfOk result (λ xs. xs ≡ first ∷ second ∷ []) }
 {
     let mut items = one(alloc, first)?;
@@ -73,7 +69,7 @@ fn set(alloc: Global, number: u8) -> Result<SetTerm, NoMemory> {
     Ok(SetTerm::new(one(alloc, var)?, none(alloc)))
 }
 
-fn cell(at: Term, content: Term) -> CellAt
+pub fn cell(at: Term, content: Term) -> CellAt
     ensures { result ≡ record { at = at; content = content } }
 {
     CellAt { at, content }
@@ -90,7 +86,7 @@ fn inst(alloc: Global, pred: u8, number: u8) -> Result<InstOf, NoMemory> {
     })
 }
 
-fn heap_of_one(alloc: Global, chunk: Chunk) -> Result<Heap, NoMemory>
+pub fn heap_of_one(alloc: Global, chunk: Chunk) -> Result<Heap, NoMemory>
     ensures { IfOk result (λ h. h.chunks ≡ chunk ∷ []) }
 {
     Ok(Heap::new(one(alloc, chunk)?))
@@ -229,77 +225,5 @@ fn pairs_nothing_without_a_focus(rt: HostRuntime) -> Result<(), Fail> {
     let pre = blocks(alloc)?;
     let pairs = framed(alloc, pre, Heap::new(none(alloc)))?;
     assert!(rt; pairs == none(alloc));
-    Ok(())
-}
-
-/// The variable by this number, led to itself.
-fn itself(number: u8) -> IntBind
-    ensures { result ≡ record { var = record { sort = Int; number = number }; to = var_term (record { sort = Int; number = number }) } }
-{
-    IntBind {
-        var: int(number),
-        to: bare(number),
-    }
-}
-
-/// The first two variables, each led to itself.
-fn both_kept(alloc: Global) -> Result<Subst, NoMemory>
-    ensures { IfOk result (λ m. m ≡ kept_vars) }
-{
-    Ok(Subst {
-        ints: two(alloc, itself(0), itself(1))?,
-        sets: none(alloc),
-    })
-}
-
-/// A cell of any content, to be freed.
-fn cell_goal(alloc: Global) -> Result<Goal, NoMemory>
-    ensures { IfOk result (λ g. g ≡ cell_goal) }
-{
-    let chunk = Chunk::Cell(cell(bare(0), bare(1)));
-    Ok(Goal {
-        program: one(alloc, int(0))?,
-        exist: none(alloc),
-        pure_pre: none(alloc),
-        pre: heap_of_one(alloc, chunk)?,
-        pure_post: none(alloc),
-        post: Heap::new(none(alloc)),
-    })
-}
-
-/// The goal with itself as a companion.
-fn linked_cell(alloc: Global) -> Result<Raw, NoMemory>
-    ensures { IfOk result (λ n. n ≡ linked_cell) }
-{
-    let link = Link {
-        goal: Shared::new(alloc, cell_goal(alloc)?)?,
-        own: none(alloc),
-        map: both_kept(alloc)?,
-        tuple: none(alloc),
-    };
-    let preds = Shared::new(alloc, Preds::new(none(alloc)))?;
-    Ok(Raw::new(preds, cell_goal(alloc)?, one(alloc, link)?))
-}
-
-fn linked_node(alloc: Global) -> Result<Node, Refused<TooLarge>>
-    ensures { IfOk result (λ n. length n.links ≡ 1) }
-{
-    Ok(normal(alloc, linked_cell(alloc)?)?.node)
-}
-
-#[test]
-fn matches_a_cell_with_that_of_the_companion(rt: HostRuntime) -> Result<(), Fail> {
-    let alloc = rt.alloc();
-    let node = linked_node(alloc)?;
-    let found = match_at(alloc, &node, 0, &[0])?;
-    let wanted = Match {
-        pairs: one(alloc, 0)?,
-        by: both_kept(alloc)?,
-        need: none(alloc),
-        mends: none(alloc),
-    };
-    assert!(rt; found == Some(wanted));
-    assert!(rt; match_at(alloc, &node, 0, &[1])?.is_none());
-    assert!(rt; match_at(alloc, &node, 0, &[])?.is_none());
     Ok(())
 }
