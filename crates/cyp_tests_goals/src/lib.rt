@@ -6,6 +6,4 @@ mod goal;
 #[cfg(test)]
 mod heap;
 #[cfg(test)]
-mod matching;
-#[cfg(test)]
 mod unify;

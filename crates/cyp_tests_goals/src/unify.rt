@@ -10,7 +10,7 @@ use cyp_unify::{Pair, frame_pairs};
 use std::alloc::Global;
 use std::test::Fail;
 
-pub fn int(number: u8) -> Var
+fn int(number: u8) -> Var
     ensures { result ≡ record { sort = Int; number = number } }
 {
     Var {
@@ -19,7 +19,7 @@ pub fn int(number: u8) -> Var
     }
 }
 
-pub fn bare(number: u8) -> Term
+fn bare(number: u8) -> Term
     ensures { result ≡ var_term (record { sort = Int; number = number }) }
 {
     Term::new(Some(int(number)), 0)
@@ -31,13 +31,13 @@ fn plain(value: i64) -> Term
     Term::new(None, value)
 }
 
-pub fn none<T>(alloc: Global) -> List<T>
+fn none<T>(alloc: Global) -> List<T>
     ensures { result ≡ [] }
 {
     List::from_vec(Vec::new(alloc))
 }
 
-pub fn one<T: Drop>(alloc: Global, item: T) -> Result<List<T>, NoMemory>
+fn one<T: Drop>(alloc: Global, item: T) -> Result<List<T>, NoMemory>
     ensures { IfOk result (λ xs. xs ≡ item ∷ []) }
 {
     let mut items = none(alloc);
@@ -45,7 +45,7 @@ pub fn one<T: Drop>(alloc: Global, item: T) -> Result<List<T>, NoMemory>
     Ok(items)
 }
 
-pub fn two<T: Drop>(alloc: Global, first: T, second: T) -> Result<List<T>, NoMemory>
+fn two<T: Drop>(alloc: Global, first: T, second: T) -> Result<List<T>, NoMemory>
     ensures { IfOk result (λ xs. xs ≡ first ∷ second ∷ []) }
 {
     let mut items = one(alloc, first)?;
@@ -69,7 +69,7 @@ fn set(alloc: Global, number: u8) -> Result<SetTerm, NoMemory> {
     Ok(SetTerm::new(one(alloc, var)?, none(alloc)))
 }
 
-pub fn cell(at: Term, content: Term) -> CellAt
+fn cell(at: Term, content: Term) -> CellAt
     ensures { result ≡ record { at = at; content = content } }
 {
     CellAt { at, content }
@@ -86,7 +86,7 @@ fn inst(alloc: Global, pred: u8, number: u8) -> Result<InstOf, NoMemory> {
     })
 }
 
-pub fn heap_of_one(alloc: Global, chunk: Chunk) -> Result<Heap, NoMemory>
+fn heap_of_one(alloc: Global, chunk: Chunk) -> Result<Heap, NoMemory>
     ensures { IfOk result (λ h. h.chunks ≡ chunk ∷ []) }
 {
     Ok(Heap::new(one(alloc, chunk)?))
