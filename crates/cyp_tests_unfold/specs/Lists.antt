@@ -6,7 +6,6 @@ use Rattle.cyp_heap.specs.declared.chunk.Chunk.{Chunk}
 use Rattle.cyp_heap.specs.declared.chunk.Chunk.TheVariants.{Block, Cell, Inst}
 use Rattle.cyp_heap.specs.declared.chunk.InstOf.{InstOf}
 use Rattle.cyp_heap.specs.declared.pred.Clause.{Clause}
-use Rattle.cyp_heap.specs.declared.pred.Pred.{Pred}
 use Rattle.cyp_term.specs.declared.lit.Lit.TheVariants.{Eq, Ne, Same}
 use Rattle.cyp_term.specs.declared.lit.SetTerm.{SetTerm}
 use Rattle.cyp_term.specs.declared.term.Sort.TheVariants.{Int, Set}
