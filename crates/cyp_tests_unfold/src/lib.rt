@@ -1,0 +1,7 @@
+//! Tests of unfolding.
+#![tactic(auto)]
+
+#[cfg(test)]
+mod lists;
+#[cfg(test)]
+mod unfolding;
