@@ -2,22 +2,38 @@
 
 ghost use Rattle.std.specs.Prelude.{IfOk, [], ◌≡◌, ◌∷◌};
 
-use crate::lists::{one, plus};
 use cyp_measure::{decreases, levels};
-use cyp_term::{List, Lit, NoMemory};
+use cyp_term::{List, Lit, NoMemory, Sort, Term, Var};
 use std::alloc::Global;
 use std::test::Fail;
+
+/// The variable of this number.
+fn variable(number: u8) -> Term {
+    let var = Var {
+        sort: Sort::Int,
+        number,
+    };
+    Term::new(Some(var), 0)
+}
+
+fn one<T: Drop>(alloc: Global, item: T) -> Result<List<T>, NoMemory>
+    ensures { IfOk result (λ xs. xs ≡ item ∷ []) }
+{
+    let mut items = List::from_vec(Vec::new(alloc));
+    items.push(alloc, item)?;
+    Ok(items)
+}
 
 /// The ways in which the measure of the first and second variable falls to that of the first and
 /// third.
 fn ways(alloc: Global) -> Result<List<List<Lit>>, NoMemory> {
-    let (a, b, c) = (plus(0, 0), plus(1, 0), plus(2, 0));
+    let (a, b, c) = (variable(0), variable(1), variable(2));
     decreases(alloc, &[a, b], &[a, c])
 }
 
 /// That the first falls, or that it doesn't rise and the third is below the second.
 fn expected_ways(alloc: Global) -> Result<List<List<Lit>>, NoMemory> {
-    let (a, b, c) = (plus(0, 0), plus(1, 0), plus(2, 0));
+    let (a, b, c) = (variable(0), variable(1), variable(2));
     let mut then = one(alloc, Lit::Le(a, a))?;
     then.push(alloc, Lit::Lt(c, b))?;
     let mut ways = one(alloc, one(alloc, Lit::Lt(a, a))?)?;
