@@ -1,18 +1,26 @@
 //! Tests of the words of the command line.
 
-use cyp_space::Settings;
 use cyp_term::{Fail as Refused, NoMemory};
-use cyp_words::{Command, Extras, Usage, read_words};
+use cyp_words::{Command, Usage, read_words};
 use std::alloc::Global;
 use std::test::Fail;
 
-/// Words, and the budget, the unfoldings and whether there is a report, of their search.
-const SEARCHES: &[(&[&str], u32, u8, bool)] = &[
-    (&["synth"], 20_000, 2, false),
-    (&["synth", "--budget=3"], 3, 2, false),
-    (&["synth", "--budget", "100000"], 100_000, 2, false),
-    (&["synth", "--stats", "--unfold", "0"], 20_000, 0, true),
-    (&["synth", "--unfold=3", "--budget", "0000007"], 7, 3, false),
+/// Two ways to ask for one search.
+const ALIKE: &[(&[&str], &[&str])] = &[
+    (&["synth"], &["synth", "--unfold", "2", "--budget=20000"]),
+    (&["synth", "--budget=3"], &["synth", "--budget", "0000003"]),
+    (
+        &["synth", "--stats", "--unfold", "0"],
+        &["synth", "--unfold=0", "--stats"],
+    ),
+];
+
+/// Two searches.
+const APART: &[(&[&str], &[&str])] = &[
+    (&["synth"], &["synth", "--budget", "100000"]),
+    (&["synth"], &["synth", "--unfold=3"]),
+    (&["synth"], &["synth", "--stats"]),
+    (&["synth", "--budget=3"], &["synth", "--unfold=3"]),
 ];
 
 /// Words, and the most steps of their run.
@@ -84,24 +92,27 @@ fn command(alloc: Global, words: &[&str]) -> Result<Option<Command>, NoMemory> {
     }
 }
 
-fn parts(settings: Settings, extras: Extras) -> (u32, u8, bool) {
-    (settings.budget(), settings.unfold(), extras.stats)
-}
-
-/// The budget, the unfoldings and whether there is a report, of the words' search.
-fn search(alloc: Global, words: &[&str]) -> Result<Option<(u32, u8, bool)>, NoMemory> {
-    match command(alloc, words)? {
-        Some(Command::Synth(settings, extras)) => Ok(Some(parts(settings, extras))),
-        _ => Ok(None),
-    }
-}
-
 #[test]
 fn a_search_has_its_options_in_any_order(rt: HostRuntime) -> Result<(), Fail> {
     let alloc = rt.alloc();
-    for row in SEARCHES {
-        let (words, budget, unfold, stats) = *row;
-        assert_eq!(rt; search(alloc, words)?, Some((budget, unfold, stats)));
+    for row in ALIKE {
+        let (words, others) = *row;
+        let read = command(alloc, words)?;
+        assert!(rt; read.is_some());
+        assert_eq!(rt; read, command(alloc, others)?);
+    }
+    Ok(())
+}
+
+#[test]
+fn searches_with_other_options_differ(rt: HostRuntime) -> Result<(), Fail> {
+    let alloc = rt.alloc();
+    for row in APART {
+        let (words, others) = *row;
+        let read = command(alloc, words)?;
+        let other = command(alloc, others)?;
+        assert!(rt; other.is_some());
+        assert!(rt; read != other);
     }
     Ok(())
 }
