@@ -33,6 +33,7 @@ pub use laws::{
     root_is_well_linked,
 };
 pub use mends::writes_for;
+pub use next::next_of;
 pub use occurs::goal_vars;
 pub use rows::{Tried, add_row, row, rows_of, try_rule};
 pub use rule::{CallBy, Row, Rule};

@@ -58,7 +58,7 @@ fn vars_and_exist(alloc: Global, node: &Node) -> Result<Vec<Var>, NoMemory>
 }
 
 /// For each sort the least number above those of its variables in the node. It is at most 32.
-pub(crate) fn next_of(alloc: Global, node: &Node) -> Result<Next, NoMemory>
+pub fn next_of(alloc: Global, node: &Node) -> Result<Next, NoMemory>
     ensures next { IfOk result (λ next. next ≡ next_of node.now) }
     ensures low { IfOk result (λ next. next.ints ≤ 32) }
     ensures low_cards { IfOk result (λ next. next.cards ≤ 32) }
