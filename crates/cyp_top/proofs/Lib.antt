@@ -1,7 +1,9 @@
+pub mod AskedSearches
 pub mod ChainExamples
 pub mod CorrectTexts
 pub mod Examples
 pub mod FitRead
+pub mod FoundVerdicts
 pub mod ListExamples
 pub mod Outputs
 pub mod Roots

@@ -25,7 +25,7 @@ module _ (s : Specification) where
   pub linked_copy : (n : Node) → n ≡ spec_node s → IsWellLinked n
   linked_copy n e = subst IsWellLinked (sym e) (IsWellLinked-none s.preds s.goal)
 
-  has_normal : KeepsSpec s → is_some (normal (spec_node s)) ≡ false → ⊥
+  pub has_normal : KeepsSpec s → is_some (normal (spec_node s)) ≡ false → ⊥
   has_normal k e = false≢true (sym e ∙ (and_parts (is_goal_within s.goal) (is_some (normal (spec_node s))) k.within).1)
 
   -- there is a normal form

@@ -9,6 +9,7 @@ use Rattle.cyp_prog.specs.declared.fault.ProgFault.{ProgFault}
 use Rattle.cyp_text.proofs.Decided.{one_tree, parsed}
 use Rattle.cyp_spec.proofs.Exists.{some_reading}
 use Rattle.cyp_spec.proofs.Unique.{one_reading}
+use Rattle.cyp_moves.specs.Moves.{is_any}
 use Rattle.cyp_names.specs.Specifications.{Specification}
 use Rattle.cyp_top.proofs.RunOutputs.{one_run_output, some_run_output}
 use Rattle.cyp_top.specs.Chain.{gen_output}
@@ -22,11 +23,11 @@ use Rattle.cyp_words.specs.Words.{Command, Gen, RunOn, Search, Synth, command_of
 
 -- ---- specifications
 
-one_spec_output : (s : Search) (bytes : List ℕ) (a b : Output) → IsSpecOutput s bytes a → IsSpecOutput s bytes b → a ≡ b
-one_spec_output s bytes a b x y = x.2 ∙ ap (result_output s) (one_reading one_tree bytes x.0 y.0 x.1 y.1) ∙ sym y.2
+one_spec_output : (s : Search) (bytes : List ℕ) (a b : Output) → IsSpecOutput is_any s bytes a → IsSpecOutput is_any s bytes b → a ≡ b
+one_spec_output s bytes a b x y = x.2 ∙ ap (result_output is_any s) (one_reading one_tree bytes x.0 y.0 x.1 y.1) ∙ sym y.2
 
-some_spec_output : (s : Search) (bytes : List ℕ) → (o : Output) × IsSpecOutput s bytes o
-some_spec_output s bytes = let r = some_reading parsed bytes in (result_output s r.0, (r.0, r.1, refl))
+some_spec_output : (s : Search) (bytes : List ℕ) → (o : Output) × IsSpecOutput is_any s bytes o
+some_spec_output s bytes = let r = some_reading parsed bytes in (result_output is_any s r.0, (r.0, r.1, refl))
 
 -- ---- runs
 
@@ -73,11 +74,11 @@ some_whole_output words bytes = some_command_output (command_of words) bytes
 
 -- ---- workers
 
-same_result : (s : Search) (n : ℕ) (r : Result Specification Fault) → result_output s r ≡ result_output (with_workers n s) r
+same_result : (s : Search) (n : ℕ) (r : Result Specification Fault) → result_output is_any s r ≡ result_output is_any (with_workers n s) r
 same_result s n (Ok t) = refl
 same_result s n (Err f) = refl
 
 pub workers_change_nothing : WorkersChangeNothing
 workers_change_nothing v w s n p q bytes o x =
-    let said : IsSpecOutput s bytes o = subst (λ (c : Option Command). IsCommandOutput c bytes o) p x in
+    let said : IsSpecOutput is_any s bytes o = subst (λ (c : Option Command). IsCommandOutput c bytes o) p x in
     subst (λ (c : Option Command). IsCommandOutput c bytes o) (sym q) (said.0, said.1, said.2 ∙ same_result s n said.0)

@@ -4,6 +4,7 @@ use Rattle.cyp_heap.specs.declared.chunk.Chunk.{Chunk}
 use Rattle.cyp_heap.specs.declared.chunk.Chunk.TheVariants.{Cell}
 use Rattle.cyp_heap.specs.declared.goal.Goal.{Goal}
 use Rattle.cyp_heap.specs.declared.goal.Node.{Node}
+use Rattle.cyp_moves.specs.Moves.{is_any}
 use Rattle.cyp_pred.specs.Unfold.{count_from, new_ints}
 use Rattle.cyp_search.specs.Reports.{Found, NoneFound, PlainReport, PlainVerdict}
 use Rattle.cyp_search.specs.Reports.{Spent as BudgetSpent}
@@ -83,4 +84,4 @@ chain_lines n r =
 
 -- the search has 2 unfoldings and a budget of 100,000
 abbrev pub gen_output : ℕ → Output
-gen_output n = chain_lines n (spec_report 2 100000 (chain_spec n))
+gen_output n = chain_lines n (spec_report is_any 2 100000 (chain_spec n))

@@ -1,4 +1,5 @@
 pub mod Answers
+pub mod Asked
 pub mod Chain
 pub mod Code
 pub mod Correctness

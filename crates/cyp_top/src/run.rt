@@ -1,28 +1,23 @@
-ghost use Rattle.std.specs.Prelude.{◌≡◌, ◌≢◌, ◌⊎◌, List, map, string_bytes, false, true, ℕ};
+ghost use Rattle.std.specs.Prelude.{◌≡◌, ◌≢◌, ◌⊎◌, List, Some, map, string_bytes, false, ℕ};
 ghost use Rattle.cyp_top.specs.Answers.{Answers, IsSaid, Sends};
+ghost use Rattle.cyp_top.specs.Asked.{search_of};
 ghost use Rattle.cyp_top.specs.Correctness.{AppendsCorrect};
-ghost use Rattle.cyp_top.specs.Lines.{Output};
-ghost use Rattle.cyp_top.specs.Output.{IsOutput, is_synth};
-ghost use Rattle.cyp_top.specs.declared.status.Status.TheVariants.{Program, Usage, WriteFault};
+ghost use Rattle.cyp_top.specs.Lines.{Output, words_refused};
+ghost use Rattle.cyp_top.specs.Output.{IsOutput, is_search};
+ghost use Rattle.cyp_top.specs.declared.status.Status.TheVariants.{NoMemory, Program, Usage, WriteFault};
+ghost use Rattle.cyp_words.specs.Words.{Synth, one_worker_command_of};
 
 use crate::answer::synth_answer;
 use crate::status::Status;
 use cyp_io::{Reading, Sink, Source, Writing, read_all, write_all};
-use cyp_term::Steps;
+use cyp_space::Settings;
+use cyp_term::{Fail, Steps};
+use cyp_words::{Command, Extras, read_words};
 use std::alloc::Global;
 use std::sync::ledger::Ledger;
 
 /// The most bytes of a text that is read.
 const LONGEST_TEXT: usize = 65_536;
-
-fn is_synth(words: &[String]) -> bool
-    ensures { result ≡ is_synth (map string_bytes words.now) }
-{
-    match words {
-        [only] => only.as_str() == "synth",
-        _ => false,
-    }
-}
 
 /// Writes the text, and answers the status where all of it was taken.
 fn send<K: Sink>(sink: &mut K, text: &[u8], status: Status) -> Status
@@ -37,9 +32,25 @@ fn send<K: Sink>(sink: &mut K, text: &[u8], status: Status) -> Status
     }
 }
 
+/// Refuses the words.
+fn refuse<K: Sink>(sink: &mut K) -> Status
+    ensures sends { Sends Usage words_refused.text
+        record { told = K.taken sink.old; faults = K.faults sink.old }
+        record { told = K.taken sink.new; faults = K.faults sink.new } result }
+{
+    send(sink, b"words refused\n", Status::Usage)
+}
+
 /// Reads a text, and writes what is said of it.
-fn synthesise<S: Source, K: Sink>(alloc: Global, source: &mut S, sink: &mut K) -> Status
-    ensures answer { Answers true
+fn synthesise<S: Source, K: Sink>(
+    alloc: Global,
+    settings: &Settings,
+    extras: Extras,
+    source: &mut S,
+    sink: &mut K,
+) -> Status
+    requires { settings.now.nodes ≡ 500000 }
+    ensures answer { Answers (Some (Synth (search_of settings.now extras)))
         record { told = S.left source.old; faults = S.faults source.old }
         record { told = S.left source.new; faults = S.faults source.new }
         record { told = K.taken sink.old; faults = K.faults sink.old }
@@ -50,15 +61,19 @@ fn synthesise<S: Source, K: Sink>(alloc: Global, source: &mut S, sink: &mut K) -
         Err(_) => Status::NoMemory,
         Ok(Reading::Failed) => Status::ReadFault,
         Ok(Reading::Long) => send(sink, b"refused: TooLong at 65536\n", Status::Refused),
-        Ok(Reading::Whole(text)) => match synth_answer(alloc, text.as_slice()) {
-            Err(_) => Status::NoMemory,
-            Ok(answer) => send(sink, answer.text(), answer.status()),
-        },
+        Ok(Reading::Whole(text)) => {
+            match synth_answer(alloc, settings, extras, text.as_slice()) {
+                Err(_) => Status::NoMemory,
+                Ok(answer) => send(sink, answer.text(), answer.status()),
+            }
+        }
     }
 }
 
-/// Runs the program over what is handed in. For the one word `synth` it reads a specification from
-/// the source, and writes a program that meets it, or what there is to say instead.
+/// Runs the program over what is handed in. For the word `synth` and its options it reads a
+/// specification from the source, and writes a program that meets it, or what there is to say instead.
+/// Other words are refused; `run` and `gen`, which are words of the program, are among them as long as
+/// they aren't built.
 pub fn run_still<S: Source, K: Sink, L: Ledger>(
     alloc: Global,
     words: &[String],
@@ -66,28 +81,32 @@ pub fn run_still<S: Source, K: Sink, L: Ledger>(
     sink: &mut K,
     steps: &mut Steps<L>,
 ) -> Status
-    ensures answer { Answers (is_synth (map string_bytes words.now))
+    ensures answer { Answers (one_worker_command_of (map string_bytes words.now))
         record { told = S.left source.old; faults = S.faults source.old }
         record { told = S.left source.new; faults = S.faults source.new }
         record { told = K.taken sink.old; faults = K.faults sink.old }
         record { told = K.taken sink.new; faults = K.faults sink.new } result }
 
     // Where it answers that there is a program, it wrote the text of one that is correct for what the source told.
-    ensures correct { result ≡ Program → AppendsCorrect (S.left source.old) (K.taken sink.old) (K.taken sink.new) }
+    ensures correct { result ≡ Program → AppendsCorrect (one_worker_command_of (map string_bytes words.now)) (S.left source.old) (K.taken sink.old) (K.taken sink.new) }
 
     // Words that are refused, and no others, give this status, and the source isn't read.
-    ensures usage { result ≡ Usage → is_synth (map string_bytes words.now) ≡ false }
-    ensures refused { is_synth (map string_bytes words.now) ≡ false → (result ≡ Usage) ⊎ (result ≡ WriteFault) }
-    ensures unread { is_synth (map string_bytes words.now) ≡ false → source.new ≡ source.old }
+    ensures usage { result ≡ Usage → is_search (one_worker_command_of (map string_bytes words.now)) ≡ false }
+    ensures refused { is_search (one_worker_command_of (map string_bytes words.now)) ≡ false → (result ≡ Usage) ⊎ (result ≡ WriteFault) ⊎ (result ≡ NoMemory) }
+    ensures unread { is_search (one_worker_command_of (map string_bytes words.now)) ≡ false → source.new ≡ source.old }
 
     // No step is counted yet.
     ensures uncounted { steps.new ≡ steps.old }
 {
     let _ = steps;
-    if is_synth(words) {
-        synthesise(alloc, source, sink)
-    } else {
-        send(sink, b"words refused\n", Status::Usage)
+    match read_words(alloc, words) {
+        Ok(Command::Synth(settings, extras)) => {
+            synthesise(alloc, &settings, extras, source, sink)
+        }
+        Ok(Command::RunOn(_)) => refuse(sink),
+        Ok(Command::Gen(_)) => refuse(sink),
+        Err(Fail::Named(_)) => refuse(sink),
+        Err(Fail::NoMemory) => Status::NoMemory,
     }
 }
 
