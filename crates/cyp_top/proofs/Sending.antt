@@ -46,6 +46,10 @@ unheard (Some (Synth s)) e (Some bytes) = absurd (false≢true (sym e))
 unheard (Some (RunOn fuel)) e (Some bytes) = (refl, refl)
 unheard (Some (Gen n)) e (Some bytes) = (refl, refl)
 
+-- what is sent of the refusal of words that ask for no search is an answer
+pub refused_answers : (c : Option Command) → is_search c ≡ false → (s k k' : End) (status : Status) → Sends Usage words_refused.text k k' status → Answers c s s k k' status
+refused_answers c e s k k' status sent = sends_answer c s s k k' words_refused status refl (unheard c e s.told) tt sent
+
 -- nothing is left of a text within the limit
 pub all_read : (s : Search) (bytes : List ℕ) → length bytes ≤ 65536 → left_of (Some (Synth s)) bytes ≡ []
 all_read s bytes len = drop_all 65537 bytes (omega (arith, len))

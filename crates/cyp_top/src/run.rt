@@ -1,6 +1,6 @@
 ghost use Rattle.std.specs.Prelude.{◌≡◌, ◌≢◌, ◌⊎◌, List, Some, map, string_bytes, false, ℕ};
 ghost use Rattle.cyp_top.specs.Answers.{Answers, IsSaid, Sends};
-ghost use Rattle.cyp_top.specs.Asked.{search_of};
+ghost use Rattle.cyp_top.specs.Asked.{IsLimited, asked, search_of};
 ghost use Rattle.cyp_top.specs.Correctness.{AppendsCorrect};
 ghost use Rattle.cyp_top.specs.Lines.{Output, words_refused};
 ghost use Rattle.cyp_top.specs.Output.{IsOutput, is_search};
@@ -70,6 +70,30 @@ fn synthesise<S: Source, K: Sink>(
     }
 }
 
+/// Does what the command asks for, if it is a search; the others are refused as long as they aren't built.
+fn obey<S: Source, K: Sink>(
+    alloc: Global,
+    command: &Command,
+    source: &mut S,
+    sink: &mut K,
+) -> Status
+    requires { IsLimited command.now }
+    ensures answer { Answers (Some (asked command.now))
+        record { told = S.left source.old; faults = S.faults source.old }
+        record { told = S.left source.new; faults = S.faults source.new }
+        record { told = K.taken sink.old; faults = K.faults sink.old }
+        record { told = K.taken sink.new; faults = K.faults sink.new } result }
+    ensures usage { result ≡ Usage → is_search (Some (asked command.now)) ≡ false }
+    ensures refused { is_search (Some (asked command.now)) ≡ false → (result ≡ Usage) ⊎ (result ≡ WriteFault) }
+    ensures unread { is_search (Some (asked command.now)) ≡ false → source.new ≡ source.old }
+{
+    match command {
+        Command::Synth(settings, extras) => synthesise(alloc, settings, *extras, source, sink),
+        Command::RunOn(_) => refuse(sink),
+        Command::Gen(_) => refuse(sink),
+    }
+}
+
 /// Runs the program over what is handed in. For the word `synth` and its options it reads a
 /// specification from the source, and writes a program that meets it, or what there is to say instead.
 /// Other words are refused; `run` and `gen`, which are words of the program, are among them as long as
@@ -100,11 +124,7 @@ pub fn run_still<S: Source, K: Sink, L: Ledger>(
 {
     let _ = steps;
     match read_words(alloc, words) {
-        Ok(Command::Synth(settings, extras)) => {
-            synthesise(alloc, &settings, extras, source, sink)
-        }
-        Ok(Command::RunOn(_)) => refuse(sink),
-        Ok(Command::Gen(_)) => refuse(sink),
+        Ok(command) => obey(alloc, &command, source, sink),
         Err(Fail::Named(_)) => refuse(sink),
         Err(Fail::NoMemory) => Status::NoMemory,
     }

@@ -4,6 +4,7 @@ use crate::answer::report_of;
 use crate::root::root_of_spec;
 use crate::{Status, run_still};
 use cyp_io::{MemSink, MemSource};
+use cyp_space::Settings;
 use cyp_spec::read_spec;
 use cyp_term::{List, NoMemory, Steps};
 use std::alloc::Global;
@@ -449,13 +450,52 @@ fn words_and_faults_have_their_answers(rt: HostRuntime) -> Result<(), Fail> {
     Ok(())
 }
 
+#[test]
+fn options_have_their_answers(rt: HostRuntime) -> Result<(), Fail> {
+    let alloc = rt.alloc();
+    let usage = ending(alloc, Status::Usage, b"words refused\n")?;
+    let spent = ending(alloc, Status::Spent, b"budget spent\n")?;
+    let written = ending(alloc, Status::Program, b"void f(v1) {\n  *v1 = 5;\n}\n")?;
+    assert_eq!(rt;
+        run(alloc, &["synth", "--budget", "2"], CONSTANT, 64, &[], &[])?,
+        spent
+    );
+    assert_eq!(rt;
+        run(alloc, &["synth", "--budget=3"], CONSTANT, 64, &[], &[])?,
+        written
+    );
+    assert_eq!(rt;
+        run(alloc, &["synth", "--budget", "0"], CONSTANT, 64, &[0], &[])?,
+        usage
+    );
+    assert_eq!(rt;
+        run(alloc, &["synth", "--stats", "--unfold", "3"], CONSTANT, 64, &[], &[])?,
+        ending(
+            alloc,
+            Status::Program,
+            b"void f(v1) {\n  *v1 = 5;\n}\n// expansions 3\n// nodes 3\n// depth 2\n"
+        )?
+    );
+    assert_eq!(rt;
+        run(alloc, &["synth", "--stats", "--budget", "2"], CONSTANT, 64, &[], &[])?,
+        ending(
+            alloc,
+            Status::Spent,
+            b"budget spent\n// expansions 2\n// nodes 3\n// depth 2\n"
+        )?
+    );
+    assert_eq!(rt; run(alloc, &["gen", "3"], SWAP, 64, &[0], &[])?, usage);
+    assert_eq!(rt; run(alloc, &["run"], SWAP, 64, &[0], &[])?, usage);
+    Ok(())
+}
+
 /// How many leaves the search from the text's root expands.
 fn expansions(alloc: Global, text: &[u8]) -> Result<Option<u32>, NoMemory> {
     let Ok(spec) = read_spec(alloc, text) else {
         return Ok(None);
     };
     let root = root_of_spec(alloc, &spec)?;
-    Ok(Some(report_of(alloc, root)?.expansions))
+    Ok(Some(report_of(alloc, &Settings::default(), root)?.expansions))
 }
 
 #[test]

@@ -6,8 +6,9 @@ mod words;
 ghost use Rattle.std.specs.Prelude.{◌≡◌, ◌⊎◌, false, map, string_bytes};
 ghost use Rattle.cyp_top.specs.Answers.{Answers};
 ghost use Rattle.cyp_top.specs.Correctness.{AppendsCorrect};
-ghost use Rattle.cyp_top.specs.Output.{is_synth};
-ghost use Rattle.cyp_top.specs.declared.status.Status.TheVariants.{Program, Usage, WriteFault};
+ghost use Rattle.cyp_top.specs.Output.{is_search};
+ghost use Rattle.cyp_top.specs.declared.status.Status.TheVariants.{NoMemory, Program, Usage, WriteFault};
+ghost use Rattle.cyp_words.specs.Words.{one_worker_command_of};
 
 use crate::words::words_behind;
 use cyp_io::{Sink, Source, StdSink, StdSource};
@@ -30,15 +31,15 @@ fn run_uncounted<L: Ledger, S: Source, K: Sink>(
     requires name { blank.name ≡ L.name }
     requires parts { blank.parts ≡ L.parts }
     requires one { blank.parts ≡ 1 }
-    ensures answer { Answers (is_synth (map string_bytes words.now))
+    ensures answer { Answers (one_worker_command_of (map string_bytes words.now))
         record { told = S.left source.old; faults = S.faults source.old }
         record { told = S.left source.new; faults = S.faults source.new }
         record { told = K.taken sink.old; faults = K.faults sink.old }
         record { told = K.taken sink.new; faults = K.faults sink.new } result }
-    ensures correct { result ≡ Program → AppendsCorrect (S.left source.old) (K.taken sink.old) (K.taken sink.new) }
-    ensures usage { result ≡ Usage → is_synth (map string_bytes words.now) ≡ false }
-    ensures refused { is_synth (map string_bytes words.now) ≡ false → (result ≡ Usage) ⊎ (result ≡ WriteFault) }
-    ensures unread { is_synth (map string_bytes words.now) ≡ false → source.new ≡ source.old }
+    ensures correct { result ≡ Program → AppendsCorrect (one_worker_command_of (map string_bytes words.now)) (S.left source.old) (K.taken sink.old) (K.taken sink.new) }
+    ensures usage { result ≡ Usage → is_search (one_worker_command_of (map string_bytes words.now)) ≡ false }
+    ensures refused { is_search (one_worker_command_of (map string_bytes words.now)) ≡ false → (result ≡ Usage) ⊎ (result ≡ WriteFault) ⊎ (result ≡ NoMemory) }
+    ensures unread { is_search (one_worker_command_of (map string_bytes words.now)) ≡ false → source.new ≡ source.old }
 {
     let mut steps = Steps::<L>::new(blank);
     run_still(alloc, words, source, sink, &mut steps)
