@@ -469,7 +469,14 @@ fn options_have_their_answers(rt: HostRuntime) -> Result<(), Fail> {
         usage
     );
     assert_eq!(rt;
-        run(alloc, &["synth", "--stats", "--unfold", "3"], CONSTANT, 64, &[], &[])?,
+        run(
+            alloc,
+            &["synth", "--stats", "--unfold", "3"],
+            CONSTANT,
+            64,
+            &[],
+            &[]
+        )?,
         ending(
             alloc,
             Status::Program,
@@ -477,7 +484,14 @@ fn options_have_their_answers(rt: HostRuntime) -> Result<(), Fail> {
         )?
     );
     assert_eq!(rt;
-        run(alloc, &["synth", "--stats", "--budget", "2"], CONSTANT, 64, &[], &[])?,
+        run(
+            alloc,
+            &["synth", "--stats", "--budget", "2"],
+            CONSTANT,
+            64,
+            &[],
+            &[]
+        )?,
         ending(
             alloc,
             Status::Spent,
