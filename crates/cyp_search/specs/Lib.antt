@@ -1,7 +1,10 @@
 pub mod Branches
+pub mod Expansions
+pub mod Frontiers
 pub mod Kept
 pub mod Mapped
 pub mod Outlooks
 pub mod PlainReports
+pub mod Recalling
 pub mod Reports
 pub mod Stages
