@@ -1,9 +1,5 @@
-pub mod Branches
 pub mod Expansions
 pub mod Frontiers
-pub mod Kept
-pub mod Mapped
-pub mod Outlooks
 pub mod PlainReports
 pub mod Recalling
 pub mod Reports
