@@ -1,5 +1,5 @@
 -- The order of entries, and an entry put among others in order.
-use Rattle.std.proofs.Common.{◌≡◌, refl, ◌≤◌, ◌<◌, Bool, true, false, cond, List, [], ◌∷◌, arith}
+use Rattle.std.proofs.Common.{◌≡◌, refl, Bool, true, false, cond, List, [], ◌∷◌, arith}
 use Rattle.std.proofs.lemmas.Bool.Decides.{nat_tests}
 use Rattle.cyp_queue.specs.declared.entry.Entry.{Entry}
 use Rattle.cyp_queue.specs.Entries.{is_before, put_entry, NoneBefore, AreInOrder}

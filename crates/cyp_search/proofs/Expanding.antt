@@ -1,6 +1,5 @@
--- An expansion: the popped entry is of the next leaf, whose moves are put there, looked up or counted.
-use Rattle.std.proofs.Common.{◌≡◌, refl, sym, ◌∙◌, ap, subst, ℕ, ◌+◌, ◌≤◌, ◌<◌, inl, inr, Bool, true, false, List, Option, Some, None, IsSome}
-use Rattle.cyp_space.specs.Alts.{AltOf}
+-- An expansion: the popped entry is of the next leaf, whose moves are put there.
+use Rattle.std.proofs.Common.{◌≡◌, refl, sym, ◌∙◌, ap, subst, ℕ, ◌+◌, ◌<◌, Bool, true, false, List, Option, Some, None}
 use Rattle.cyp_tree.specs.declared.mark.Mark.TheVariants.{Undecided}
 use Rattle.cyp_tree.specs.Trees.{Tree, Moving}
 use Rattle.cyp_tree.specs.Statuses.{status}
@@ -11,9 +10,8 @@ use Rattle.cyp_tree.specs.Places.{HasPlace, IsLive}
 use Rattle.cyp_tree.proofs.OnePlace.{one_place, live_stands}
 use Rattle.cyp_queue.specs.declared.entry.Entry.{Entry}
 use Rattle.cyp_queue.specs.Entries.{PopsAlive}
-use Rattle.cyp_memo.specs.Places.{Places, moves_at}
 use Rattle.cyp_search.specs.Frontiers.{IsFrontier}
-use Rattle.cyp_search.specs.Expansions.{Puts, Expands, SameMoves, GainsMoves, Learns, Learning}
+use Rattle.cyp_search.specs.Expansions.{Puts, Expands}
 use Rattle.cyp_search.proofs.NextPopped.{open_with, IsNext, next_popped, none_open}
 
 -- nothing was taken out
@@ -50,16 +48,3 @@ module _ {R N : Type 0} (space : Moving R N) (t : Tree R N) where
     pub expands_put : (limit : ℕ) (new : Tree R N) (es : List Entry) (b : Bool) → Puts space.weight limit leaf (space.moves node) t new es b → Expands space limit t new es b
     expands_put limit new es true (e, few, f) = (is.undecided, e ∙ same_grown, few, f)
     expands_put limit new es false (e, many) = (e, λ o. subst (λ (u : Tree R N). limit < size u) same_grown many)
-
-    module _ (eq : N → N → Bool) where
-      -- with moves that the memo had
-      pub learning_hit : (places : Places R N) (steps : ℕ) (b : Bool) → IsSome (moves_at eq places node) → Learning eq space t places places steps steps b
-      learning_hit places steps true s = (is.waiting, is.next, inl (subst (λ (n : N). IsSome (moves_at eq places n)) (sym is.named) s, λ n. refl, refl))
-      learning_hit places steps false s = (λ n. refl, inl refl)
-
-      -- with moves that it hadn't
-      pub learning_miss : (old new : Places R N) (before after : ℕ) (b : Bool) → moves_at eq old node ≡ None → Learns eq node (space.moves node) old new b → after ≡ before + 1
-          → Learning eq space t old new before after b
-      learning_miss old new before after true none g same =
-          (is.waiting, is.next, inr (subst (λ (n : N). moves_at eq old n ≡ None) (sym is.named) none, subst (λ (n : N). GainsMoves eq n (space.moves n) old new) (sym is.named) g, same))
-      learning_miss old new before after false none s same = (s, inr (is.undecided, same))

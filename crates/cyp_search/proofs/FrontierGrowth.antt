@@ -1,5 +1,5 @@
 -- The entries of a tree of one leaf, after a leaf was popped, and with the entry of one more node.
-use Rattle.std.proofs.Common.{◌≡◌, sym, ◌∙◌, ap, subst, ℕ, suc, ◌+◌, ◌≤◌, ◌<◌, inl, inr, List, [], Some, arith}
+use Rattle.std.proofs.Common.{◌≡◌, sym, ◌∙◌, ap, subst, ℕ, ◌+◌, ◌<◌, inl, inr, List, [], Some, arith}
 use Rattle.std.specs.List.{Contains}
 use Rattle.std.proofs.lemmas.Bool.{cases_lt}
 use Rattle.cyp_space.specs.Alts.{AltOf}
@@ -17,7 +17,7 @@ use Rattle.cyp_queue.specs.Entries.{put_entry, PopsAlive}
 use Rattle.cyp_search.proofs.EntryOrder.{put_in_order}
 use Rattle.cyp_search.specs.Frontiers.{entry_of, IsFrontier, IsReady}
 use Rattle.cyp_search.proofs.EntryLists.{put_there, put_keeps, put_only, Popped, popped}
-use Rattle.cyp_search.proofs.NextPopped.{live_below, live_number}
+use Rattle.cyp_search.proofs.NextPopped.{live_number}
 
 -- no entries, before those of the nodes from 0 on
 pub frontier_none : (R : Type 0) {N : Type 0} (weight : N → ℕ) (root : N) → IsFrontier {R = R} weight (Leaf 0 root) 0 []

@@ -3,9 +3,7 @@ pub mod EntryOrder
 pub mod Expanding
 pub mod FoundFollows
 pub mod FrontierGrowth
-pub mod MemoAnswers
 pub mod NextPopped
 pub mod NumberedStages
 pub mod OneReport
-pub mod Recalled
 pub mod ReportProof

@@ -1,5 +1,5 @@
 -- The first entry of a live leaf is that of the next leaf.
-use Rattle.std.proofs.Common.{◌≡◌, refl, sym, ◌∙◌, ap, subst, ℕ, ◌+◌, ◌≤◌, ◌<◌, inl, inr, Bool, true, false, cond, List, [], ◌∷◌, map, Option, Some, None, IsSome, arith}
+use Rattle.std.proofs.Common.{◌≡◌, refl, sym, ◌∙◌, ap, subst, ℕ, ◌+◌, ◌<◌, inl, inr, Bool, true, false, cond, List, [], ◌∷◌, Option, Some, None, IsSome, arith}
 use Rattle.std.specs.List.{Contains}
 use Rattle.std.proofs.lemmas.Bool.{cases_lt}
 use Rattle.cyp_tree.specs.declared.mark.Mark.TheVariants.{Undecided}
@@ -7,7 +7,7 @@ use Rattle.cyp_tree.specs.Trees.{Tree}
 use Rattle.cyp_tree.specs.Statuses.{status}
 use Rattle.cyp_tree.specs.Sizes.{size}
 use Rattle.cyp_tree.specs.Live.{Waiting, live_leaves, comes_first, first_of, least_waiting, next_leaf}
-use Rattle.cyp_tree.specs.Numbers.{leaves, occurrences, IsNumbered}
+use Rattle.cyp_tree.specs.Numbers.{IsNumbered}
 use Rattle.cyp_tree.specs.Places.{HasPlace, IsLive}
 use Rattle.cyp_tree.proofs.Counting.{leaves-le}
 use Rattle.cyp_tree.proofs.HasLive.{has_next}

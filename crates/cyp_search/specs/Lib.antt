@@ -1,6 +1,5 @@
 pub mod Expansions
 pub mod Frontiers
 pub mod PlainReports
-pub mod Recalling
 pub mod Reports
 pub mod Stages

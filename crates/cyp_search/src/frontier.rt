@@ -5,7 +5,7 @@ ghost use Rattle.cyp_tree.specs.Places.{IsLive};
 ghost use Rattle.cyp_search.specs.Frontiers.{IsFrontier, IsReady};
 ghost use Rattle.cyp_search.specs.Expansions.{Puts, Expands};
 
-use crate::counting::moves_of;
+use crate::moves::moves_of;
 use cyp_queue::Queue;
 use cyp_space::{Moves, Space, count_of_premises};
 use cyp_term::{NoMemory, Shared};
@@ -67,7 +67,7 @@ pub fn frontier_of<S: Space>(
 }
 
 /// Puts moves at a live leaf where the nodes then stay within the limit, and answers whether they do.
-pub fn put_moves<S: Space>(
+fn put_moves<S: Space>(
     alloc: Global,
     space: &S,
     limit: u32,

@@ -1,4 +1,4 @@
-use Rattle.std.proofs.Common.{◌≡◌, sym, ap, ◌∙◌, true, false, is_some, arith}
+use Rattle.std.proofs.Common.{◌≡◌, sym, ap, ◌∙◌, true, false, is_some}
 use Rattle.cyp_tree.specs.Statuses.{status}
 use Rattle.cyp_tree.specs.Derivations.{chosen_derivation}
 use Rattle.cyp_tree.proofs.HasDerivation.{has_derivation}

@@ -1,6 +1,6 @@
 use Rattle.std.proofs.Common.{◌≡◌, sym, ap, ◌∙◌, zero, suc, ◌+◌, ◌-◌, ◌≤◌, true, false, add-one, arith}
 use Rattle.std.proofs.lemmas.Result.{IfOk-weaker}
-use Rattle.cyp_tree.specs.Trees.{Leaf, Moving}
+use Rattle.cyp_tree.specs.Trees.{Moving}
 use Rattle.cyp_tree.specs.Sizes.{size}
 use Rattle.cyp_tree.specs.Growing.{expand_next}
 use Rattle.cyp_search.specs.Reports.{report_at, report_from}

@@ -1,4 +1,4 @@
-use Rattle.std.proofs.Common.{◌≡◌, ap, subst, ◌<◌, ◌≤◌, List, Option, Some, None}
+use Rattle.std.proofs.Common.{◌≡◌, subst, List, Option, None}
 use Rattle.std.proofs.lemmas.Result.{IfOk-weaker}
 use Rattle.cyp_space.specs.Alts.{AltOf}
 use Rattle.cyp_tree.specs.Trees.{Moving}
