@@ -1,7 +1,5 @@
-pub mod Branches
-pub mod Kept
-pub mod Mapped
-pub mod Outlooks
+pub mod Expansions
+pub mod Frontiers
 pub mod PlainReports
 pub mod Reports
 pub mod Stages

@@ -1,14 +1,10 @@
-//! The plain search: it keeps the whole tree, and looks through it at each expansion.
+//! Best-first searches over a tree of places and a queue of its leaves.
 #![tactic(auto)]
 
-mod branch;
-mod chosen;
-mod depths;
-mod grafts;
-mod growing;
+mod best_first;
+mod frontier;
 mod laws;
-mod outlook;
-mod plain_search;
+mod moves;
 
+pub use best_first::search;
 pub use laws::{report_is_of_the_least_stage, report_is_unique, stages_are_numbered};
-pub use plain_search::search;
