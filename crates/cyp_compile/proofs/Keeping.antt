@@ -2,8 +2,3 @@
 pub mod OldProgram
 pub mod NamesBound
 pub mod RuleFits
-pub mod Callees
-pub mod BodiesFit
-pub mod ProceduresFit
-pub mod NamesDiffer
-pub mod Whole
