@@ -2,3 +2,8 @@
 pub mod OldProgram
 pub mod NamesBound
 pub mod RuleFits
+pub mod Callees
+pub mod BodiesFit
+pub mod ProceduresFit
+pub mod NamesDiffer
+pub mod Whole

@@ -51,11 +51,11 @@ in_others v x xs e h = at (var_eq v x) refl h
 
 named : (m : ℕ) (names : Names) (v : Var) → AllByRecursion (IsEntry m) names → var_in v (keys_of names) ≡ true → IsBound m (name_of names v)
 named m [] v each h = absurd (false≢true h)
-named m (p ∷ ps) v each h = at (var_eq p.0 v) refl
+named m (p ∷ ps) v each h = at (var_eq p.0 v) refl (λ k. named m ps v each.1 k)
   where
-    at : (c : Bool) → var_eq p.0 v ≡ c → IsBound m (cond c p.1 (name_of ps v))
-    at true e = each.0
-    at false e = named m ps v each.1 (in_others v p.0 (keys_of ps) e h)
+    at : (c : Bool) → var_eq p.0 v ≡ c → (var_in v (keys_of ps) ≡ true → IsBound m (name_of ps v)) → IsBound m (cond c p.1 (name_of ps v))
+    at true e later = each.0
+    at false e later = later (in_others v p.0 (keys_of ps) e h)
 
 -- each program variable is bound
 pub bound_name : (names : Names) (program : List Var) (m : ℕ) (v : Var) → IsCalled names program m → var_in v program ≡ true → IsBound m (name_of names v)

@@ -69,7 +69,7 @@ module _ (ps : List Procedure) (n : Node) (names : Names) (m : ℕ) (w : IsCalle
   expr_fits : (t : Term) → is_program_expr n.goal t ≡ true → ExprFits m (expr_of names t)
   expr_fits t e = base_fits t.base e
 
-  exprs_fit : (f : Var → Term) (vs : List Var) → list_all (λ (v : Var). is_program_expr n.goal (f v)) vs ≡ true → ExprsFit m (map (λ (v : Var). expr_of names (f v)) vs)
+  pub exprs_fit : (f : Var → Term) (vs : List Var) → list_all (λ (v : Var). is_program_expr n.goal (f v)) vs ≡ true → ExprsFit m (map (λ (v : Var). expr_of names (f v)) vs)
   exprs_fit f [] h = tt
   exprs_fit f (v ∷ vs) h =
       let b = and_parts (is_program_expr n.goal (f v)) (list_all (λ (x : Var). is_program_expr n.goal (f x)) vs) h in
@@ -119,11 +119,11 @@ module _ (ps : List Procedure) (n : Node) (names : Names) (m : ℕ) (w : IsCalle
 
   placed : (P : Mend → Type 0) (k : Mend) (ks : List Mend) → P k → AllByRecursion P ks → AllByRecursion P (by_cell k ks)
   placed P k [] p h = (p, tt)
-  placed P k (j ∷ js) p h = at (nat_lt k.cell j.cell)
+  placed P k (j ∷ js) p h = at (nat_lt k.cell j.cell) (placed P k js p h.1)
     where
-      at : (c : Bool) → AllByRecursion P (cond c (k ∷ j ∷ js) (j ∷ by_cell k js))
-      at true = (p, h)
-      at false = (h.0, placed P k js p h.1)
+      at : (c : Bool) → AllByRecursion P (by_cell k js) → AllByRecursion P (cond c (k ∷ j ∷ js) (j ∷ by_cell k js))
+      at true later = (p, h)
+      at false later = (h.0, later)
 
   in_order : (P : Mend → Type 0) (ks : List Mend) → AllByRecursion P ks → AllByRecursion P (in_cell_order ks)
   in_order P [] h = tt
@@ -189,7 +189,7 @@ module _ (ps : List Procedure) (n : Node) (names : Names) (m : ℕ) (w : IsCalle
       let w = free_parts n i (slice_get (pre_of n) i) ms e in
       (block_fits (slice_get (pre_of n) i) w.block w.block_is w.address, first_fits m bs all z.1)
   rule_fits ByAlloc procs bs ms e takes all z = ((refl, z.0.0, z.0.1), first_fits (suc m) bs all z.1)
-  rule_fits (ByCall c) procs bs ms e takes all = call_fits procs c (first_body bs) (slice_get n.links c.link) ms e takes (first_fits m bs all)
-  rule_fits (ByOpen i) procs bs ms e takes all = open_fits i (slice_get (pre_of n) i) bs ms e all
+  rule_fits (ByCall c) procs bs ms e takes all z = call_fits procs c (first_body bs) (slice_get n.links c.link) ms e takes (first_fits m bs all) z
+  rule_fits (ByOpen i) procs bs ms e takes all z = open_fits i (slice_get (pre_of n) i) bs ms e all z
   rule_fits (ByClose c) procs bs ms e takes all z = first_fits m bs all z
   rule_fits (ByPick u) procs bs ms e takes all z = first_fits m bs all z
