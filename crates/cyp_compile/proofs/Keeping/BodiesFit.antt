@@ -55,9 +55,11 @@ called_fits : (ps : List Procedure) (n : Node) (names : Names) (m p : ℕ) (q : 
     → Fits ps m (Then (Invoking p (map (λ v. expr_of names (var_term v)) n.goal.program)) End)
 called_fits ps n names m p q naming at same z =
     let as_many : q.params ≡ length (map (λ (v : Var). expr_of names (var_term v)) n.goal.program) = same ∙ sym (length-map n.goal.program (λ (v : Var). expr_of names (var_term v))) in (
-      (subst (λ (o : Option Procedure). HasParams (length (map (λ (v : Var). expr_of names (var_term v)) n.goal.program)) o) (sym at) as_many,
-      exprs_fit ps n names m naming var_term n.goal.program
-          (each_from (λ (v : Var). is_program_expr n.goal (var_term v)) n.goal.program (λ v k. in_from_among v n.goal.program k))),
+      (
+        subst (λ (o : Option Procedure). HasParams (length (map (λ (v : Var). expr_of names (var_term v)) n.goal.program)) o) (sym at) as_many,
+        exprs_fit ps n names m naming var_term n.goal.program
+            (each_from (λ (v : Var). is_program_expr n.goal (var_term v)) n.goal.program (λ v k. in_from_among v n.goal.program k)),
+      ),
       tt,
     )
 
@@ -89,7 +91,10 @@ module _ (ps : List Procedure) (main : List ℕ) where
         (λ e. called_fits ps n names m next own naming (at_first ps next own (procedures_in main (suc next) (with_proc r next procs) ds) (two.0 e)) refl)
         (λ e.
         let none : is_called n r ds ≡ true → Takes ps n.goal 0 = λ x. absurd (both_ways (is_called n r ds) e x) in
-        rule_at n r ds 0 next names m procs steps naming companions none (two.1 e))
+        let w = premises_of n r ds steps in
+        placed n r ds 0 next names m procs w naming companions
+        (bodies_fit ds (goals_after n r) w.renamed next (with_new_name n r (suc m) names) (bound_count r m) (with_proc r 0 procs) w.nodes steps.1
+        (named_premises n r names m naming w.renamed w.renamed_is) (parts_take ps n 0 procs ds r companions none) (two.1 e)))
 
     pub bodies_fit : (ds : Proofs) (goals : List Goal) (rs : List Renaming) (next : ℕ) (names : Names) (m : ℕ) (procs : List ℕ) → nodes_of rs ≡ part_nodes ds → AllStepsHold ds
         → AllByRecursion (IsNamed goals names m) rs → PartsTake ps goals procs ds → HasFrom ps next (procedures_in main next procs ds) → AllByRecursion (Fits ps m) (bodies next names rs m procs ds)
@@ -107,12 +112,12 @@ module _ (ps : List Procedure) (main : List ℕ) where
               (second_of_two ps next (called_count d) (procedures main next procs d) (procedures_in main (next + called_count d) procs ds) (length-procedures d main next procs) has),
         )
 
-    -- the statements of a place's rule, in the procedure `self`
-    pub rule_at : (n : Node) (r : Rule) (ds : Proofs) (self next : ℕ) (names : Names) (m : ℕ) (procs : List ℕ) → StepsHold (Derived n r ds) → IsCalled names n.goal.program m
-        → CompanionsTake ps (link_goals n.links) procs (Derived n r ds) → (is_called n r ds ≡ true → Takes ps n.goal self)
-        → HasFrom ps next (procedures_in main next (with_proc r self procs) ds) → Placed n r ds self next names m procs
-    rule_at n r ds self next names m procs steps naming companions own has =
-        let w = premises_of n r ds steps in
-        placed n r ds self next names m procs w naming companions
-        (bodies_fit ds (goals_after n r) w.renamed next (with_new_name n r (suc m) names) (bound_count r m) (with_proc r self procs) w.nodes steps.1
-        (named_premises n r names m naming w.renamed w.renamed_is) (parts_take ps n self procs ds r companions own) has)
+  -- the statements of a place's rule, in the procedure `self`
+  pub rule_at : (n : Node) (r : Rule) (ds : Proofs) (self next : ℕ) (names : Names) (m : ℕ) (procs : List ℕ) → StepsHold (Derived n r ds) → IsCalled names n.goal.program m
+      → CompanionsTake ps (link_goals n.links) procs (Derived n r ds) → (is_called n r ds ≡ true → Takes ps n.goal self)
+      → HasFrom ps next (procedures_in main next (with_proc r self procs) ds) → Placed n r ds self next names m procs
+  rule_at n r ds self next names m procs steps naming companions own has =
+      let w = premises_of n r ds steps in
+      placed n r ds self next names m procs w naming companions
+      (bodies_fit ds (goals_after n r) w.renamed next (with_new_name n r (suc m) names) (bound_count r m) (with_proc r self procs) w.nodes steps.1
+      (named_premises n r names m naming w.renamed w.renamed_is) (parts_take ps n self procs ds r companions own) has)

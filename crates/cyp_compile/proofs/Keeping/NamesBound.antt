@@ -114,8 +114,8 @@ module _ (n : Node) (r : Rule) (names : Names) (m : ℕ) (w : IsCalled names n.g
     naming = record {
       keys = firsts-zip s.node.goal.program (map (name_of after) s.old) (length-map s.old (name_of after) ∙ old_length x s e);
       each = zipped (bound_count r m) (name_of after) s.node.goal.program s.old
-      (Every-from_among (λ (o : Var). IsBound (bound_count r m) (name_of after o)) s.old
-      (λ v i. bound_name after (program_after n r) (bound_count r m) v names_after (in_from_among v (program_after n r) (subst (Among v) k.program (old_among x s e v i)))));
+          (Every-from_among (λ (o : Var). IsBound (bound_count r m) (name_of after o)) s.old
+          (λ v i. bound_name after (program_after n r) (bound_count r m) v names_after (in_from_among v (program_after n r) (subst (Among v) k.program (old_among x s e v i)))));
     };
   }
 

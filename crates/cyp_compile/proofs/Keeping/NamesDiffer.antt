@@ -9,6 +9,7 @@ use Rattle.cyp_tree.specs.Derivations.{Derived, More, NoMore}
 use Rattle.std.proofs.Common.{◌≡◌, refl, sym, ap, ◌∙◌, ℕ, zero, suc, ◌+◌, ◌<◌, ◌≤◌, ◌^◌, Bool, true, false, cond, length, List, [], ◌∷◌, ◌++◌, map, arith, subst}
 use Rattle.std.proofs.lemmas.Fmt.{decimal_injective}
 use Rattle.std.proofs.lemmas.List.{append-nil, append_cancel_left, map-append}
+use Rattle.std.proofs.lemmas.Map.Keys.{IsDistinct-cons}
 use Rattle.std.proofs.lemmas.Slice.Eq.{bytes_eq-Decides}
 use Rattle.std.specs.List.{AllByRecursion, IsDistinct}
 use Rattle.std.specs.Prelude.{decimal}
@@ -51,6 +52,10 @@ auxiliary_differs main a b l few =
 
 -- ---- names with consecutive numbers
 
+no_names : IsDistinct bytes_eq []
+unfolding IsDistinct
+no_names = tt
+
 module _ (main : List ℕ) where
   abbrev numbered : ℕ → ℕ → List (List ℕ)
   numbered a k = map (auxiliary_name main) (count_from a k)
@@ -73,8 +78,9 @@ module _ (main : List ℕ) where
       rest b k l = omega arith
 
   all_apart : (a k : ℕ) → a + k ≤ 65536 → IsDistinct bytes_eq (numbered a k)
-  all_apart a zero few = tt
-  all_apart a (suc k) few = (later_apart a (suc a) k (next a) (rest a k few), all_apart (suc a) k (rest a k few))
+  all_apart a zero few = no_names
+  all_apart a (suc k) few =
+      IsDistinct-cons bytes_eq (auxiliary_name main a) (numbered (suc a) k) (later_apart a (suc a) k (next a) (rest a k few)) (all_apart (suc a) k (rest a k few))
     where
       next : (a : ℕ) → a < suc a
       next a = omega arith
@@ -85,12 +91,19 @@ module _ (main : List ℕ) where
   -- ---- the names of procedures
 
   count-sum : (a x y : ℕ) → count_from a (x + y) ≡ count_from a x ++ count_from (a + x) y
-  count-sum a zero y = ap (λ (k : ℕ). count_from k y) (none a)
+  count-sum a zero y = λ i. count_from (none a i) (nothing y i)
     where
       none : (a : ℕ) → a ≡ a + 0
       none a = omega arith
-  count-sum a (suc x) y = ap (λ (ks : List ℕ). a ∷ ks) (count-sum (suc a) x y ∙ ap (λ (k : ℕ). count_from (suc a) x ++ count_from k y) (sum a x))
+
+      nothing : (y : ℕ) → 0 + y ≡ y
+      nothing y = omega arith
+  count-sum a (suc x) y =
+      ap (count_from a) (one x y) ∙ ap (λ (ks : List ℕ). a ∷ ks) (count-sum (suc a) x y ∙ ap (λ (k : ℕ). count_from (suc a) x ++ count_from k y) (sum a x))
     where
+      one : (x y : ℕ) → suc x + y ≡ suc (x + y)
+      one x y = omega arith
+
       sum : (a x : ℕ) → suc a + x ≡ a + suc x
       sum a x = omega arith
 
@@ -117,7 +130,8 @@ pub names_differ : (name : List ℕ) (d : Proof) → length (program_of name d) 
 names_differ name (Derived n r ds) few =
     let main : List ℕ = main_name name in
     subst (λ (ks : List (List ℕ)). IsDistinct bytes_eq (main ∷ ks)) (sym (all_numbered main ds 1 (with_proc r 0 [])))
-    (main_apart main 1 (called_counts ds), all_apart main 1 (called_counts ds) (low (length (procedures_in main 1 (with_proc r 0 []) ds)) (called_counts ds) (length-procedures_in ds main 1 (with_proc r 0 [])) few))
+    (IsDistinct-cons bytes_eq main (numbered main 1 (called_counts ds)) (main_apart main 1 (called_counts ds))
+    (all_apart main 1 (called_counts ds) (low (length (procedures_in main 1 (with_proc r 0 []) ds)) (called_counts ds) (length-procedures_in ds main 1 (with_proc r 0 [])) few)))
   where
     low : (l c : ℕ) → l ≡ c → suc l ≤ 65535 → 1 + c ≤ 65536
     low l c e few = omega arith

@@ -21,7 +21,7 @@ programs_keep_rules name (Derived n r ds) ready few small = record {
   few = few;
   names = names_differ name (Derived n r ds) few;
   each = joined (program_of name (Derived n r ds)) (program_of name (Derived n r ds)) (whole_fits name n r ds ready.steps ready.alone)
-  (recursion_from_All IsSmall (program_of name (Derived n r ds)) small);
+      (recursion_from_All IsSmall (program_of name (Derived n r ds)) small);
 }
   where
     positive : (k : ℕ) → 0 < suc k
