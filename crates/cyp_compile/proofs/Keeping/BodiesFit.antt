@@ -12,7 +12,7 @@ use Rattle.cyp_kernel.specs.Companions.{Proof, Proofs, called_count, is_called}
 use Rattle.cyp_kernel.specs.Compile.{auxiliary_name, bodies, body, bound_count, procedure, procedures, procedures_in, renamed_names, renamings, with_new_name, with_proc}
 use Rattle.cyp_kernel.specs.Naming.{Names, expr_of}
 use Rattle.cyp_kernel.specs.Statements.{rule_body}
-use Rattle.cyp_prog.specs.Programs.{Body, End, Invoking, Procedure, Then}
+use Rattle.cyp_prog.specs.Programs.{End, Invoking, Procedure, Then}
 use Rattle.cyp_prog.specs.Rules.{HasParams}
 use Rattle.cyp_sound.proofs.Safety.BodiesMeet.{first_same, later_same, no_more}
 use Rattle.cyp_sound.proofs.Safety.CompanionGoals.{link_goals}

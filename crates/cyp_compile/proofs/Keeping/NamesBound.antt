@@ -1,5 +1,4 @@
 -- The names of a node's program variables are those of parameters and binders on the path, and so are those of its premises.
-use Rattle.cyp_goal.proofs.Live.{in_among}
 use Rattle.cyp_goal.specs.Normal.{Renaming, normal}
 use Rattle.cyp_heap.specs.declared.goal.Goal.{Goal}
 use Rattle.cyp_heap.specs.declared.goal.Node.{Node}
@@ -19,8 +18,8 @@ use Rattle.cyp_term.proofs.Equality.{Decides-var_eq}
 use Rattle.cyp_term.proofs.Lists.{Among, Every-append, Every-from_among}
 use Rattle.cyp_term.specs.Terms.{var_eq, var_in}
 use Rattle.cyp_term.specs.declared.term.Var.{Var}
-use Rattle.std.proofs.Common.{◌≡◌, refl, sym, ap, ◌∙◌, ℕ, zero, suc, ◌+◌, ◌<◌, ◌≤◌, Bool, true, false, cond, length, List, [], ◌∷◌, ◌++◌, map, ◌||◌, Some, arith, subst}
-use Rattle.std.proofs.lemmas.Bool.{both_ways, false≢true, or_cases}
+use Rattle.std.proofs.Common.{◌≡◌, refl, sym, ap, ◌∙◌, ℕ, zero, suc, ◌+◌, ◌≤◌, Bool, true, false, cond, length, List, [], ◌∷◌, ◌++◌, map, ◌||◌, Some, arith, subst}
+use Rattle.std.proofs.lemmas.Bool.{both_ways, false≢true}
 use Rattle.std.proofs.lemmas.List.{length-map, map-append}
 use Rattle.std.proofs.lemmas.List.Elements.{recursion_from_All}
 use Rattle.std.proofs.lemmas.Option.{option_and_then_some, same_Some}

@@ -5,7 +5,6 @@ use Rattle.cyp_heap.specs.BlockValue.{BlockValue}
 use Rattle.cyp_heap.specs.declared.chunk.CellAt.{CellAt}
 use Rattle.cyp_heap.specs.declared.chunk.Chunk.{Chunk}
 use Rattle.cyp_heap.specs.declared.chunk.Chunk.TheVariants.{Block, Cell, Inst}
-use Rattle.cyp_heap.specs.declared.chunk.InstOf.{InstOf}
 use Rattle.cyp_heap.specs.declared.goal.Link.{Link}
 use Rattle.cyp_heap.specs.declared.goal.Node.{Node}
 use Rattle.cyp_kernel.proofs.CallStart.{Callable, callable}
@@ -16,10 +15,10 @@ use Rattle.cyp_kernel.proofs.RuleRead.{read_parts}
 use Rattle.cyp_kernel.proofs.RuleWrite.{write_parts}
 use Rattle.cyp_kernel.specs.Compile.{bound_count}
 use Rattle.cyp_kernel.specs.Naming.{Names, base_name, expr_of, test_of}
-use Rattle.cyp_kernel.specs.Statements.{block_size, by_cell, chunk_address, chunk_content, choose, first_body, guards, in_cell_order, kept_mends, linked_call, matched_call, pre_cell_at, rule_body, stores}
+use Rattle.cyp_kernel.specs.Statements.{by_cell, chunk_address, chunk_content, choose, first_body, guards, in_cell_order, kept_mends, linked_call, matched_call, rule_body, stores}
 use Rattle.cyp_pred.specs.Unfold.{unfold_inst}
 use Rattle.cyp_pred.specs.declared.unfolded.Unfolded.{Unfolded}
-use Rattle.cyp_prog.specs.Programs.{Body, Choosing, End, Failing, Giving, Invoking, Loading, Procedure, Storing, Taking, Then}
+use Rattle.cyp_prog.specs.Programs.{Body, Invoking, Procedure, Then}
 use Rattle.cyp_prog.specs.Rules.{BodyFits, ExprFits, ExprsFit, HasParams, IsBound}
 use Rattle.cyp_step.specs.Calling.{raw_call}
 use Rattle.cyp_step.specs.Changes.{next_of, pre_of}
@@ -36,13 +35,11 @@ use Rattle.cyp_term.specs.declared.lit.Lit.TheVariants.{Eq, Le, Lt, Member, Ne, 
 use Rattle.cyp_term.specs.declared.term.Term.{Term}
 use Rattle.cyp_term.specs.declared.term.Var.{Var}
 use Rattle.cyp_unify.specs.Frames.{focus}
-use Rattle.cyp_unify.specs.Matches.{match_at}
 use Rattle.cyp_unify.specs.declared.found.Match.{Match}
 use Rattle.cyp_unify.specs.declared.found.Mend.{Mend}
-use Rattle.std.proofs.Common.{◌≡◌, refl, sym, ap, ◌∙◌, ℕ, suc, Bool, true, false, not, ◌&&◌, ◌==◌, cond, length, List, [], ◌∷◌, map, Option, Some, None, subst}
+use Rattle.std.proofs.Common.{◌≡◌, refl, sym, ℕ, suc, Bool, true, false, ◌&&◌, cond, length, List, [], ◌∷◌, map, Option, Some, None, subst}
 use Rattle.std.proofs.lemmas.Bool.{and_parts, false≢true}
 use Rattle.std.proofs.lemmas.List.{length-map}
-use Rattle.std.proofs.lemmas.Option.{none-some}
 use Rattle.std.specs.List.{AllByRecursion, list_all}
 use Rattle.std.specs.Prelude.{IfSome, filter, nat_lt, slice_get, slice_index}
 
