@@ -28,7 +28,7 @@ suc_same j k e = cc
 
 -- ---- a called companion
 
-goal_at : (ls : List Link) (i : ℕ) (l : Link) → slice_get ls i ≡ Some l → slice_get (link_goals ls) i ≡ Some l.goal
+pub goal_at : (ls : List Link) (i : ℕ) (l : Link) → slice_get ls i ≡ Some l → slice_get (link_goals ls) i ≡ Some l.goal
 goal_at [] i l e = absurd (none-some l e)
 goal_at (x ∷ xs) zero l e = ap (λ (y : Link). Some y.goal) (same_Some x l e)
 goal_at (x ∷ xs) (suc i) l e = goal_at xs i l e
@@ -56,7 +56,7 @@ pushed (z ∷ xs) (p ∷ procs) y self e (suc i) x at = later (pushed xs procs y
     later (inl h) = inl h
     later (inr h) = inr (ap suc h.0, h.1, h.2)
 
-length-goals : (ls : List Link) → length (link_goals ls) ≡ length ls
+pub length-goals : (ls : List Link) → length (link_goals ls) ≡ length ls
 length-goals [] = refl
 length-goals (l ∷ ls) = ap suc (length-goals ls)
 

@@ -154,7 +154,7 @@ mutual
       either-length (is_called n r ds) _ _ (called_counts ds) (ap suc (length-procedures_in ds main (suc next) (with_proc r next procs)))
       (length-procedures_in ds main next (with_proc r 0 procs))
 
-  length-procedures_in : (ds : Proofs) (main : List ℕ) (next : ℕ) (procs : List ℕ) → length (procedures_in main next procs ds) ≡ called_counts ds
+  pub length-procedures_in : (ds : Proofs) (main : List ℕ) (next : ℕ) (procs : List ℕ) → length (procedures_in main next procs ds) ≡ called_counts ds
   length-procedures_in NoMore main next procs = refl
   length-procedures_in (More d ds) main next procs =
       let first = length-procedures d main next procs in
